@@ -1,0 +1,4 @@
+-- Laws of this crate's proofs that belong to no one function.
+pub mod Tests
+pub mod WellFormed
+pub mod Placed

@@ -1,0 +1,344 @@
+ghost use mathlib.Core.Path.{_≡_};
+ghost use Prim.Native.Nat.{ℕ, _≤_, _^_};
+ghost use Rattle.chunk.specs.Contents.{contentsOf, layoutOf, noContents, layoutWithin, withTable, childRange, Placed};
+ghost use Rattle.chunk.specs.Time.{earlier, atOrBelow};
+ghost use Rattle.chunk.specs.Check.{checkedOf};
+ghost use Rattle.chunk.specs.Entry.{every};
+ghost use Rattle.chunk.specs.Words.{rises, endsRise, endsStep, lists, allOrNone, wellFormed};
+ghost use mathlib.Core.Bool.{true, not, _&&_};
+ghost use lib.Dec.{eqb};
+ghost use lib.ListN.{length};
+
+// What the contents table says: the four counts, where each body starts, and the chunk's size.
+pub struct Contents {
+    pub fits: bool,
+    pub nk: usize,
+    pub nv: usize,
+    pub nt: usize,
+    pub nd: usize,
+    pub keys_at: usize,
+    pub val_ends_at: usize,
+    pub vals_at: usize,
+    pub time_ends_at: usize,
+    pub times_at: usize,
+    pub diff_ends_at: usize,
+    pub diffs_at: usize,
+    pub size: usize,
+}
+
+// The items of one list: from `lower` to `upper`, which is excluded.
+pub struct Range {
+    pub lower: usize,
+    pub upper: usize,
+}
+
+// What `check` answers: 0 with the contents and whether every time has its diff, or 5 with all else zero.
+pub struct Checked {
+    pub number: u64,
+    pub settled: bool,
+    pub contents: Contents,
+}
+
+// The most times that a chunk may have.
+const LIMIT: usize = 1048576;
+
+// The words before the first body.
+const TABLE: usize = 4;
+
+fn places(nk: usize, nv: usize, nt: usize, nd: usize) -> Contents
+    requires { ⌜ (nk ≤ 2 ^ 60) × (nv ≤ 2 ^ 60) × (nt ≤ 2 ^ 60) × (nd ≤ 2 ^ 60) ⌝ }
+    ensures { λ r. ⌜ r ≡ layoutOf nk nv nt nd ⌝ }
+{
+    Contents {
+        fits: true,
+        nk,
+        nv,
+        nt,
+        nd,
+        keys_at: TABLE,
+        val_ends_at: TABLE + nk,
+        vals_at: TABLE + 2 * nk,
+        time_ends_at: TABLE + 2 * nk + nv,
+        times_at: TABLE + 2 * nk + 2 * nv,
+        diff_ends_at: TABLE + 2 * nk + 2 * nv + nt,
+        diffs_at: TABLE + 2 * nk + 2 * nv + 2 * nt,
+        size: TABLE + 2 * nk + 2 * nv + 2 * nt + nd,
+    }
+}
+
+fn nothing() -> Contents
+    ensures { λ r. ⌜ r ≡ noContents ⌝ }
+{
+    Contents {
+        fits: false,
+        nk: 0,
+        nv: 0,
+        nt: 0,
+        nd: 0,
+        keys_at: 0,
+        val_ends_at: 0,
+        vals_at: 0,
+        time_ends_at: 0,
+        times_at: 0,
+        diff_ends_at: 0,
+        diffs_at: 0,
+        size: 0,
+    }
+}
+
+// The contents of a slice whose table fits it; all zero where it doesn't. No count is added up before it is known to be small.
+pub fn read_contents(words: &[u64]) -> Contents
+    ensures { λ r. ⌜ r ≡ contentsOf (now (words .entry)) ⌝ }
+{
+    let room = words.len();
+    if room < TABLE {
+        return nothing();
+    }
+    let nk = words[0] as usize;
+    let nv = words[1] as usize;
+    let nt = words[2] as usize;
+    let nd = words[3] as usize;
+    if room < nk {
+        return nothing();
+    }
+    if room < nv {
+        return nothing();
+    }
+    if room < nt {
+        return nothing();
+    }
+    if room < nd {
+        return nothing();
+    }
+    let found = places(nk, nv, nt, nd);
+    let size = found.size;
+    if room < size {
+        return nothing();
+    }
+    found
+}
+
+// The places of the bodies of an output with these counts; all zero where a count is above what a chunk can have.
+pub fn layout(nk: usize, nv: usize, nt: usize, nd: usize) -> Contents
+    ensures { λ r. ⌜ r ≡ layoutWithin nk nv nt nd ⌝ }
+{
+    if LIMIT < nk {
+        return nothing();
+    }
+    if LIMIT < nv {
+        return nothing();
+    }
+    if LIMIT < nt {
+        return nothing();
+    }
+    if LIMIT < nd {
+        return nothing();
+    }
+    places(nk, nv, nt, nd)
+}
+
+// Writes the contents table at the front of `out`; leaves a slice that is too short for it as it was.
+pub fn write_table(out: &mut [u64], nk: usize, nv: usize, nt: usize, nd: usize)
+    ensures { λ _. ⌜ now (out .exit) ≡ withTable nk nv nt nd (now (out .entry)) ⌝ }
+{
+    if out.len() < TABLE {
+        return;
+    }
+    out[0] = nk as u64;
+    out[1] = nv as u64;
+    out[2] = nt as u64;
+    out[3] = nd as u64;
+}
+
+// The items of list `i`, by the ends of its layer; none where there is no such list.
+pub fn child_range(ends: &[u64], i: usize) -> Range
+    ensures { λ r. ⌜ r ≡ childRange (now (ends .entry)) i ⌝ }
+{
+    if ends.len() <= i {
+        return Range { lower: 0, upper: 0 };
+    }
+    let upper = ends[i] as usize;
+    if i == 0 {
+        return Range { lower: 0, upper };
+    }
+    let lower = ends[i - 1] as usize;
+    Range { lower, upper }
+}
+
+// Whether time `s` sorts before time `t`: by ignition, then by tick, which is the order of the numbers.
+pub fn sorts_before(s: u64, t: u64) -> bool
+    ensures { λ r. ⌜ r ≡ earlier s t ⌝ }
+{
+    s < t
+}
+
+// Whether time `s` is at or below time `t` in ignition and in tick.
+pub fn at_or_below(s: u64, t: u64) -> bool
+    ensures { λ r. ⌜ r ≡ atOrBelow s t ⌝ }
+{
+    if t / 0x1_0000_0000 < s / 0x1_0000_0000 {
+        return false;
+    }
+    s % 0x1_0000_0000 <= t % 0x1_0000_0000
+}
+
+// Whether the items rise strictly.
+fn items_rise(items: &[u64]) -> bool
+    ensures { λ r. ⌜ r ≡ rises (now (items .entry)) ⌝ }
+{
+    if items.len() == 0 {
+        return true;
+    }
+    let mut last = items[0];
+    let mut i = 1;
+    while i < items.len() {
+        let next = items[i];
+        if next <= last {
+            return false;
+        }
+        last = next;
+        i += 1;
+    }
+    true
+}
+
+// Whether the ends rise strictly from above 0 to the count of the items, and the items rise strictly within each list.
+fn layer_rises(ends: &[u64], items: &[u64]) -> bool
+    ensures { λ r. ⌜ r ≡ (endsRise 0 (now (ends .entry)) (length (now (items .entry))) && every rises (lists 0 (now (ends .entry)) (now (items .entry)))) ⌝ }
+{
+    let mut low: usize = 0;
+    let mut i = 0;
+    while i < ends.len() {
+        let end = ends[i] as usize;
+        if end <= low {
+            return false;
+        }
+        if items.len() < end {
+            return false;
+        }
+        if !items_rise(&items[low..end]) {
+            return false;
+        }
+        low = end;
+        i += 1;
+    }
+    low == items.len()
+}
+
+// Whether each end is the previous one or one more, and the last is `top`.
+fn ends_step(ends: &[u64], top: u64) -> bool
+    ensures { λ r. ⌜ r ≡ endsStep 0 (now (ends .entry)) top ⌝ }
+{
+    let mut low = 0;
+    let mut i = 0;
+    while i < ends.len() {
+        let end = ends[i];
+        if end < low {
+            return false;
+        }
+        if 1 < end - low {
+            return false;
+        }
+        low = end;
+        i += 1;
+    }
+    low == top
+}
+
+// Whether no diff is 0.
+fn diffs_stand(diffs: &[u64]) -> bool
+    ensures { λ r. ⌜ r ≡ every (λ (d : ℕ). not (eqb d 0)) (now (diffs .entry)) ⌝ }
+{
+    let mut i = 0;
+    while i < diffs.len() {
+        if diffs[i] == 0 {
+            return false;
+        }
+        i += 1;
+    }
+    true
+}
+
+// Whether all three counts are zero, or none is.
+fn all_or_none(nk: usize, nv: usize, nt: usize) -> bool
+    ensures { λ r. ⌜ r ≡ allOrNone nk nv nt ⌝ }
+{
+    if nk == 0 {
+        if nv == 0 {
+            return nt == 0;
+        }
+        return false;
+    }
+    if nv == 0 {
+        return false;
+    }
+    0 < nt
+}
+
+// Whether a slice with these contents is well formed: each body is read once.
+fn bodies_hold(words: &[u64], found: Contents) -> bool
+    requires { ⌜ Placed found (now words) ⌝ }
+    ensures { λ r. ⌜ r ≡ wellFormed (now (words .entry)) ⌝ }
+{
+    let nk = found.nk;
+    let nv = found.nv;
+    let nt = found.nt;
+    let nd = found.nd;
+    if LIMIT < nt {
+        return false;
+    }
+    if !all_or_none(nk, nv, nt) {
+        return false;
+    }
+    let keys_at = found.keys_at;
+    let val_ends_at = found.val_ends_at;
+    if !items_rise(&words[keys_at..val_ends_at]) {
+        return false;
+    }
+    let vals_at = found.vals_at;
+    let time_ends_at = found.time_ends_at;
+    if !layer_rises(&words[val_ends_at..vals_at], &words[vals_at..time_ends_at]) {
+        return false;
+    }
+    let times_at = found.times_at;
+    let diff_ends_at = found.diff_ends_at;
+    if !layer_rises(
+        &words[time_ends_at..times_at],
+        &words[times_at..diff_ends_at],
+    ) {
+        return false;
+    }
+    let diffs_at = found.diffs_at;
+    if !ends_step(&words[diff_ends_at..diffs_at], nd as u64) {
+        return false;
+    }
+    let size = found.size;
+    diffs_stand(&words[diffs_at..size])
+}
+
+// The check of a chunk: 5 exactly where the slice isn't well formed; else the contents, and whether it is settled.
+pub fn check(words: &[u64]) -> Checked
+    ensures { λ r. ⌜ r ≡ checkedOf (now (words .entry)) ⌝ }
+{
+    let found = read_contents(words);
+    let fits = found.fits;
+    if !fits {
+        return Checked {
+            number: 5,
+            settled: false,
+            contents: nothing(),
+        };
+    }
+    if !bodies_hold(words, found) {
+        return Checked {
+            number: 5,
+            settled: false,
+            contents: nothing(),
+        };
+    }
+    Checked {
+        number: 0,
+        settled: found.nd == found.nt,
+        contents: found,
+    }
+}

@@ -1,0 +1,13 @@
+-- Laws that no one call owns.
+pub mod Tests
+pub mod Order
+pub mod Lists
+pub mod Cuts
+pub mod Groups
+pub mod Tries
+pub mod Layers
+pub mod Shape
+pub mod Grown
+pub mod Frame
+pub mod Totals
+pub mod OneChunk

@@ -1,0 +1,2 @@
+-- Theorems on the definitions of `specs/Lent.antt`.
+pub mod Stays

@@ -1,0 +1,106 @@
+-- Which entries are picked by each rule: those that stand, the first n, the rest, the open ones, the others.
+use Prim.Native.Nat.{ℕ, zero, suc, _+_, _-_, _<_, _≤_}
+use mathlib.Core.Path.{_≡_, refl, sym, _∙_, ap}
+use mathlib.Core.Bool.{Bool, true, false, not, cond, _&&_, _||_}
+use mathlib.Core.List.{List, [], _∷_, map}
+use native.Mathlib.Omega.{arith}
+use lib.Dec.{ltb, leb, eqb}
+use lib.ListN.{length, getD, drop, take}
+use borrow.Author.Tests.{lt-ltb, le-ltb, le-leb, lt-leb}
+use Rattle.chunk.specs.Entry.{Entry, every, stands, keep}
+use Rattle.chunk.specs.Bodies.{times, diffEndsFrom}
+use Rattle.chunk.specs.Words.{wellFormed, entries, timeBody, diffEndBody}
+use Rattle.chunk.specs.Contents.{startOf}
+use Rattle.laws.proofs.Tests.{by-test, and-left, and-right}
+use Rattle.retain.specs.declared.Keep.the-variants.{All, Below, From, Open, Shut}
+use Rattle.retain.specs.Layers.{pick, hasDiff}
+use Rattle.retain.specs.Keep.{retainedOf}
+use Rattle.retain.specs.Frontier.{isOpen}
+use Rattle.retain.specs.Extract.{keptOf, shippedOf}
+use Rattle.retain.proofs.Filtered.{has-stands, next-start, next-ends, onto, cut-head, cut-tail}
+use Rattle.retain.proofs.Retained.{diffEnds-in, times-in}
+
+module _ (leaf : ℕ → Bool) (all : List ℕ) where
+  -- where every time passes, those that stand are picked
+  picks-all : ((i : ℕ) → leaf i ≡ true) → (es : List Entry) (i n : ℕ) → drop i all ≡ diffEndsFrom n es → startOf all i ≡ n
+      → pick (λ (t : ℕ). hasDiff all t && leaf t) i es ≡ keep stands es
+  unfolding pick keep
+  picks-all q [] i n d s = refl
+  picks-all q (e ∷ es) i n d s =
+      let ih : pick (λ (t : ℕ). hasDiff all t && leaf t) (suc i) es ≡ keep stands es = picks-all q es (suc i) (onto leaf all (stands e) n) (next-ends leaf all e es i n d) (next-start leaf all e es i n d) in
+      by-test (eqb (e .diff) 0)
+      (λ k. let h : hasDiff all i ≡ false = has-stands leaf all e es i n d s ∙ simp k in simp (h, k, ih))
+      (λ k. let h : hasDiff all i ≡ true = has-stands leaf all e es i n d s ∙ simp k in simp (h, k, q i, ih))
+
+  -- where every entry stands, the rule alone decides
+  picks-settled : (es : List Entry) (i n : ℕ) → every stands es ≡ true → drop i all ≡ diffEndsFrom n es → startOf all i ≡ n
+      → pick (λ (t : ℕ). hasDiff all t && leaf t) i es ≡ pick leaf i es
+  unfolding pick every
+  picks-settled [] i n v d s = refl
+  picks-settled (e ∷ es) i n v d s =
+      let h : hasDiff all i ≡ true = has-stands leaf all e es i n d s ∙ and-left _ _ v in
+      let ih : pick (λ (t : ℕ). hasDiff all t && leaf t) (suc i) es ≡ pick leaf (suc i) es =
+      picks-settled es (suc i) (onto leaf all (stands e) n) (and-right (stands e) _ v) (next-ends leaf all e es i n d) (next-start leaf all e es i n d) in
+      simp (h, ih)
+
+pick-below : (top : ℕ) (es : List Entry) (i n : ℕ) → top ≡ i + n → pick (λ (t : ℕ). ltb t top) i es ≡ take n es
+unfolding pick
+pick-below top [] i zero h = refl
+pick-below top [] i (suc n) h = refl
+pick-below top (e ∷ es) i zero h = simp (le-ltb i top (omega arith)) (pick-past top es (suc i) (omega arith))
+  where
+    pick-past : (top : ℕ) (es : List Entry) (i : ℕ) → top ≤ i → pick (λ (t : ℕ). ltb t top) i es ≡ []
+    pick-past top [] i h = refl
+    pick-past top (e ∷ es) i h = simp (le-ltb i top h) (pick-past top es (suc i) (omega arith))
+pick-below top (e ∷ es) i (suc n) h = simp (lt-ltb i top (omega arith)) (ap (λ (l : List Entry). e ∷ l) (pick-below top es (suc i) n (omega arith)))
+
+pick-from : (low : ℕ) (es : List Entry) (i n : ℕ) → low ≡ i + n → pick (λ (t : ℕ). leb low t) i es ≡ drop n es
+unfolding pick
+pick-from low [] i zero h = refl
+pick-from low [] i (suc n) h = refl
+pick-from low (e ∷ es) i zero h = simp (le-leb low i (omega arith)) (ap (λ (l : List Entry). e ∷ l) (pick-late low es (suc i) (omega arith)))
+  where
+    pick-late : (low : ℕ) (es : List Entry) (i : ℕ) → low ≤ i → pick (λ (t : ℕ). leb low t) i es ≡ es
+    pick-late low [] i h = refl
+    pick-late low (e ∷ es) i h = simp (le-leb low i h) (ap (λ (l : List Entry). e ∷ l) (pick-late low es (suc i) (omega arith)))
+pick-from low (e ∷ es) i (suc n) h = simp (lt-leb low i (omega arith)) (pick-from low es (suc i) n (omega arith))
+
+pick-times : (q : ℕ → Bool) (all : List ℕ) (es : List Entry) (i : ℕ) → drop i all ≡ times es → pick (λ (t : ℕ). q (getD all t 0)) i es ≡ keep (λ (e : Entry). q (e .time)) es
+unfolding pick keep
+pick-times q all [] i d = refl
+pick-times q all (e ∷ es) i d =
+    let ih : pick (λ (t : ℕ). q (getD all t 0)) (suc i) es ≡ keep (λ (e : Entry). q (e .time)) es = pick-times q all es (suc i) (cut-tail all i (e .time) (times es) d) in
+    let g : getD all i 0 ≡ e .time = cut-head all i (e .time) (times es) d in
+    simp (g, ih)
+
+-- ---- what is retained by each rule
+
+module _ (w : List ℕ) (f : wellFormed w ≡ true) (corners : List ℕ) where
+  pub retained-all : retainedOf All corners w ≡ keep stands (entries w)
+  unfolding retainedOf
+  retained-all = picks-all (λ (i : ℕ). true) (diffEndBody w) (λ i. refl) (entries w) 0 0 (sym (diffEnds-in w f (λ i. true))) refl
+
+  module _ (v : every stands (entries w) ≡ true) where
+    pub retained-below : (n : ℕ) → retainedOf (Below n) corners w ≡ take n (entries w)
+    unfolding retainedOf
+    retained-below n =
+        picks-settled (λ (i : ℕ). ltb i n) (diffEndBody w) (entries w) 0 0 v (sym (diffEnds-in w f (λ i. true))) refl
+        ∙ pick-below n (entries w) 0 n (omega arith)
+
+    pub retained-from : (n : ℕ) → retainedOf (From n) corners w ≡ drop n (entries w)
+    unfolding retainedOf
+    retained-from n =
+        picks-settled (λ (i : ℕ). leb n i) (diffEndBody w) (entries w) 0 0 v (sym (diffEnds-in w f (λ i. true))) refl
+        ∙ pick-from n (entries w) 0 n (omega arith)
+
+    pub retained-open : retainedOf Open corners w ≡ keptOf corners (entries w)
+    unfolding retainedOf keptOf
+    retained-open =
+        picks-settled (λ (i : ℕ). isOpen corners (getD (timeBody w) i 0)) (diffEndBody w) (entries w) 0 0 v (sym (diffEnds-in w f (λ i. true))) refl
+        ∙ pick-times (isOpen corners) (timeBody w) (entries w) 0 (sym (times-in w f (λ i. true)))
+
+    pub retained-shut : retainedOf Shut corners w ≡ shippedOf corners (entries w)
+    unfolding retainedOf shippedOf
+    retained-shut =
+        picks-settled (λ (i : ℕ). not (isOpen corners (getD (timeBody w) i 0))) (diffEndBody w) (entries w) 0 0 v (sym (diffEnds-in w f (λ i. true))) refl
+        ∙ pick-times (λ (t : ℕ). not (isOpen corners t)) (timeBody w) (entries w) 0 (sym (times-in w f (λ i. true)))

@@ -1,0 +1,228 @@
+-- What is retained of a chunk: the layers that are written are the chunk of the entries that are picked.
+use Prim.Native.Nat.{ℕ, zero, suc, _+_, _-_, _*_, _<_, _≤_}
+use mathlib.Core.Path.{_≡_, refl, sym, _∙_, ap}
+use mathlib.Core.Bool.{Bool, true, false, not, cond, _&&_, _||_}
+use mathlib.Core.List.{List, [], _∷_, _++_, map, append-assoc}
+use native.Mathlib.Omega.{arith}
+use lib.Dec.{ltb, eqb, leb}
+use lib.ListN.{length, length-map, getD, drop, take}
+use Rattle.chunk.specs.Entry.{Entry, every, rising, stands, keep}
+use Rattle.chunk.specs.Bodies.{keys, vals, times, diffs, valEnds, timeEnds, diffEnds, diffEndsFrom, chunkOf}
+use Rattle.chunk.specs.Words.{wellFormed, entries, keyBody, valEndBody, valBody, timeEndBody, timeBody, diffEndBody, diffBody, nk, nv, nt, nd, limit, endsRise, endsStep, risesFrom, size, tableSize}
+use Rattle.chunk.specs.Contents.{startOf, tableOf, contentsOf, Placed}
+use Rattle.chunk.proofs.Placed.{placed, length-keys, length-val-ends, length-vals, length-time-ends, length-times, length-diff-ends, length-diffs}
+use borrow.Author.Tests.{ltb-true, eqb-true, leb-true}
+use Rattle.laws.specs.OneChunk.{Fronts}
+use Rattle.laws.proofs.Tests.{by-test, and-left, and-right, and-both}
+use Rattle.laws.proofs.OneChunk.{front-is-chunk, bodies-in}
+use Rattle.laws.proofs.Layers.{Seven, ofEntries}
+use Rattle.laws.proofs.Frame.{inWords, parts}
+use Rattle.retain.specs.Layers.{countKept, pick, pickAt, countUp, nodes, itemOf, endOf, listKept, hasDiff, nodesOut, leavesOut, EndsWithin, Bodies, Left, layersOut}
+use Rattle.retain.proofs.Filtered.{picked-keys, picked-valEnds, picked-vals, picked-timeEnds, pickAt-list, pickAt-diffs, picked-stands, length-pick, diffEnds-up, keep-all, nodes-pick, picked-few}
+use Rattle.retain.proofs.Counts.{count-most}
+
+-- a layer's nodes are as many as its lists that have an item left
+pub nodes-count : (m : ℕ → Bool) (items ends : List ℕ) → length items ≡ length ends → length (nodes m itemOf 0 0 items ends) ≡ countKept (listKept m ends) 0 (length items)
+nodes-count m items ends h = ap length (nodes-pick m ends items ends 0 0 0 refl refl h) ∙ length-pick (listKept m ends) 0 items
+
+-- ends that rise to the last one rise
+rise-rises : (low : ℕ) (ends : List ℕ) (top : ℕ) → endsRise low ends top ≡ true → risesFrom low ends ≡ true
+unfolding endsRise risesFrom
+rise-rises low [] top h = refl
+rise-rises low (e ∷ ends) top h = and-both (ltb low e) _ (and-left _ _ h) (rise-rises e ends top (and-right (ltb low e) _ h))
+
+-- ends that rise to the last one are no more than it
+rise-count : (low : ℕ) (ends : List ℕ) (top : ℕ) → endsRise low ends top ≡ true → low + length ends ≤ top
+unfolding endsRise
+rise-count low [] top h = let e : low ≡ top = eqb-true _ _ h in omega arith
+rise-count low (e ∷ ends) top h =
+    let i : e + length ends ≤ top = rise-count e ends top (and-right (ltb low e) _ h) in
+    let l : low < e = ltb-true _ _ (and-left _ _ h) in omega arith
+
+-- ends that step up to the last one are at most it
+step-low : (low : ℕ) (ends : List ℕ) (top : ℕ) → endsStep low ends top ≡ true → low ≤ top
+unfolding endsStep
+step-low low [] top h = let e : low ≡ top = eqb-true _ _ h in omega arith
+step-low low (e ∷ ends) top h =
+    let i : e ≤ top = step-low e ends top (and-right (eqb e low || eqb e (suc low)) _ h) in
+    by-test (eqb e low)
+    (λ k. let q : e ≡ low = eqb-true _ _ k in omega arith)
+    (λ k. let o : (eqb e low || eqb e (suc low)) ≡ true = and-left _ _ h in
+    let q : e ≡ suc low = eqb-true _ _ (simp k at o) in omega arith)
+
+step-most : (low : ℕ) (ends : List ℕ) (top i : ℕ) → endsStep low ends top ≡ true → getD ends i 0 ≤ top
+unfolding endsStep
+step-most low [] top i h = omega arith
+step-most low (e ∷ ends) top zero h = step-low e ends top (and-right (eqb e low || eqb e (suc low)) _ h)
+step-most low (e ∷ ends) top (suc i) h = step-most e ends top i (and-right (eqb e low || eqb e (suc low)) _ h)
+
+module _ (w : List ℕ) (f : wellFormed w ≡ true) (leaf : ℕ → Bool) where
+  abbrev es : List Entry
+  es = entries w
+
+  -- whether a time, a value and a key stay
+  abbrev pub timeStays : ℕ → Bool
+  timeStays i = hasDiff (diffEndBody w) i && leaf i
+
+  abbrev pub valueStays : ℕ → Bool
+  valueStays = listKept timeStays (timeEndBody w)
+
+  abbrev pub keyStays : ℕ → Bool
+  keyStays = listKept valueStays (valEndBody w)
+
+  abbrev fs : List Entry
+  fs = pick timeStays 0 es
+
+  keys-in : keys es ≡ keyBody w
+  keys-in = ap (λ (s : Seven). s .keyList) (bodies-in w f)
+
+  valEnds-in : valEnds es ≡ valEndBody w
+  valEnds-in = ap (λ (s : Seven). s .valEndList) (bodies-in w f)
+
+  vals-in : vals es ≡ valBody w
+  vals-in = ap (λ (s : Seven). s .valList) (bodies-in w f)
+
+  timeEnds-in : timeEnds es ≡ timeEndBody w
+  timeEnds-in = ap (λ (s : Seven). s .timeEndList) (bodies-in w f)
+
+  pub times-in : times es ≡ timeBody w
+  times-in = ap (λ (s : Seven). s .timeList) (bodies-in w f)
+
+  pub diffEnds-in : diffEnds es ≡ diffEndBody w
+  diffEnds-in = ap (λ (s : Seven). s .diffEndList) (bodies-in w f)
+
+  diffs-in : diffs es ≡ diffBody w
+  diffs-in = ap (λ (s : Seven). s .diffList) (bodies-in w f)
+
+  rise : rising es ≡ true
+  rise = front-is-chunk w f .rise
+
+  out-keys : keys fs ≡ nodes valueStays itemOf 0 0 (keyBody w) (valEndBody w)
+  out-keys = picked-keys timeStays es rise ∙ simp (keys-in, valEnds-in, timeEnds-in)
+
+  out-valEnds : valEnds fs ≡ nodes valueStays endOf 0 0 (keyBody w) (valEndBody w)
+  out-valEnds = picked-valEnds timeStays es rise ∙ simp (keys-in, valEnds-in, timeEnds-in)
+
+  out-vals : vals fs ≡ nodes timeStays itemOf 0 0 (valBody w) (timeEndBody w)
+  out-vals = picked-vals timeStays es rise ∙ simp (vals-in, timeEnds-in)
+
+  out-timeEnds : timeEnds fs ≡ nodes timeStays endOf 0 0 (valBody w) (timeEndBody w)
+  out-timeEnds = picked-timeEnds timeStays es rise ∙ simp (vals-in, timeEnds-in)
+
+  pub count-times : length es ≡ length (timeBody w)
+  count-times = sym (length-map es (λ (e : Entry). e .time)) ∙ ap length times-in
+
+  out-times : times fs ≡ pickAt timeStays (λ (t : ℕ). getD (timeBody w) t 0) 0 (length (timeBody w))
+  out-times =
+      sym (pickAt-list timeStays (timeBody w) (λ (e : Entry). e .time) es 0 (sym times-in))
+      ∙ ap (λ (n : ℕ). pickAt timeStays (λ (t : ℕ). getD (timeBody w) t 0) 0 n) count-times
+
+  stand : every stands fs ≡ true
+  stand = picked-stands leaf (diffEndBody w) es 0 0 (sym diffEnds-in) refl
+
+  pub out-count : length fs ≡ countKept timeStays 0 (length (timeBody w))
+  out-count = length-pick timeStays 0 es ∙ ap (λ (n : ℕ). countKept timeStays 0 n) count-times
+
+  out-diffEnds : diffEnds fs ≡ countUp 0 (countKept timeStays 0 (length (timeBody w)))
+  out-diffEnds = diffEnds-up 0 fs stand ∙ ap (countUp 0) out-count
+
+  out-diffs : diffs fs ≡ pickAt timeStays (λ (t : ℕ). getD (diffBody w) (startOf (diffEndBody w) t) 0) 0 (length (timeBody w))
+  out-diffs =
+      ap (map (λ (e : Entry). e .diff)) (keep-all stands fs stand)
+      ∙ sym (pickAt-diffs leaf (diffEndBody w) (diffBody w) es 0 0 (sym diffEnds-in) refl (sym diffs-in))
+      ∙ ap (λ (n : ℕ). pickAt timeStays (λ (t : ℕ). getD (diffBody w) (startOf (diffEndBody w) t) 0) 0 n) count-times
+
+  its-place : Placed (contentsOf w) w
+  its-place = placed w (parts w f .tableFits)
+
+  val-rows : length (keyBody w) ≡ length (valEndBody w)
+  val-rows = length-keys (contentsOf w) w its-place ∙ sym (length-val-ends (contentsOf w) w its-place)
+
+  time-rows : length (valBody w) ≡ length (timeEndBody w)
+  time-rows = length-vals (contentsOf w) w its-place ∙ sym (length-time-ends (contentsOf w) w its-place)
+
+  -- the words: the table, the keys and their ends, the values and theirs, the times, theirs and the diffs
+  pub retained : chunkOf fs
+      ≡ tableOf (countKept keyStays 0 (length (keyBody w))) (countKept valueStays 0 (length (valBody w))) (countKept timeStays 0 (length (timeBody w))) (countKept timeStays 0 (length (timeBody w)))
+      ++ (nodesOut valueStays (keyBody w) (valEndBody w) ++ (nodesOut timeStays (valBody w) (timeEndBody w) ++ leavesOut timeStays (timeBody w) (diffEndBody w) (diffBody w)))
+  unfolding chunkOf
+  retained =
+      let k : length (keys fs) ≡ countKept keyStays 0 (length (keyBody w)) = ap length out-keys ∙ nodes-count valueStays (keyBody w) (valEndBody w) val-rows in
+      let v : length (vals fs) ≡ countKept valueStays 0 (length (valBody w)) = ap length out-vals ∙ nodes-count timeStays (valBody w) (timeEndBody w) time-rows in
+      let t : length (times fs) ≡ countKept timeStays 0 (length (timeBody w)) = length-map fs (λ (e : Entry). e .time) ∙ out-count in
+      let d : length (diffs fs) ≡ countKept timeStays 0 (length (timeBody w)) = length-map (keep stands fs) (λ (e : Entry). e .diff) ∙ ap length (keep-all stands fs stand) ∙ out-count in
+      simp (k, v, t, d) (simp (out-keys, out-valEnds, out-vals, out-timeEnds, out-times, out-diffEnds, out-diffs, append-assoc))
+
+  pub val-ends-rise : risesFrom 0 (valEndBody w) ≡ true
+  val-ends-rise = rise-rises 0 (valEndBody w) (nv w) (parts w f .valEndsRise)
+
+  pub time-ends-rise : risesFrom 0 (timeEndBody w) ≡ true
+  time-ends-rise = rise-rises 0 (timeEndBody w) (nt w) (parts w f .timeEndsRise)
+
+  pub diffs-within : EndsWithin (diffEndBody w) (length (diffBody w))
+  diffs-within i h =
+      let s = step-most 0 (diffEndBody w) (nd w) i (parts w f .diffEndsStep) in
+      let l = length-diffs (contentsOf w) w its-place in
+      let k : startOf (diffEndBody w) i < getD (diffEndBody w) i 0 = ltb-true _ _ h in
+      omega arith
+
+  pub its-bodies : Bodies (keyBody w) (valEndBody w) (valBody w) (timeEndBody w) (timeBody w) (diffEndBody w) (diffBody w)
+  its-bodies =
+      record {
+        keyRows = val-rows;
+        valRows = time-rows;
+        timeRows = length-diff-ends (contentsOf w) w its-place ∙ sym (length-times (contentsOf w) w its-place);
+        valEndsRise = val-ends-rise;
+        timeEndsRise = time-ends-rise;
+        diffsWithin = diffs-within;
+      }
+
+  few-times : countKept timeStays 0 (length (timeBody w)) ≤ nd w
+  few-times =
+      let a : length fs ≤ length (keep stands es) = picked-few leaf (diffEndBody w) es 0 0 (sym diffEnds-in) refl in
+      let b : length (keep stands es) ≡ nd w = sym (length-map (keep stands es) (λ (e : Entry). e .diff)) ∙ ap length diffs-in ∙ length-diffs (contentsOf w) w its-place in
+      let d = out-count in omega arith
+
+  pub its-left : (k v t room : ℕ) → k ≡ countKept keyStays 0 (length (keyBody w) - 0) → v ≡ countKept valueStays 0 (length (valBody w) - 0)
+      → t ≡ countKept timeStays 0 (length (timeBody w) - 0) → size w ≤ room
+      → Left timeStays (keyBody w) (valEndBody w) (valBody w) (timeEndBody w) (timeBody w) k v t room
+  its-left k v t room hk hv ht h =
+      let zk : length (keyBody w) - 0 ≡ length (keyBody w) = omega arith in
+      let zv : length (valBody w) - 0 ≡ length (valBody w) = omega arith in
+      let zt : length (timeBody w) - 0 ≡ length (timeBody w) = omega arith in
+      let gk : k ≡ countKept keyStays 0 (length (keyBody w)) = hk ∙ ap (countKept keyStays 0) zk in
+      let gv : v ≡ countKept valueStays 0 (length (valBody w)) = hv ∙ ap (countKept valueStays 0) zv in
+      let gt : t ≡ countKept timeStays 0 (length (timeBody w)) = ht ∙ ap (countKept timeStays 0) zt in
+      let mk = count-most keyStays 0 (length (keyBody w)) in
+      let mv = count-most valueStays 0 (length (valBody w)) in
+      let mt = count-most timeStays 0 (length (timeBody w)) in
+      let lk = length-keys (contentsOf w) w its-place in
+      let lv = length-vals (contentsOf w) w its-place in
+      let lt = length-times (contentsOf w) w its-place in
+      let lke = length-val-ends (contentsOf w) w its-place in
+      let lve = length-time-ends (contentsOf w) w its-place in
+      let bk = rise-count 0 (valEndBody w) (nv w) (parts w f .valEndsRise) in
+      let bv = rise-count 0 (timeEndBody w) (nt w) (parts w f .timeEndsRise) in
+      let bt : nt w ≤ limit = leb-true _ _ (parts w f .few) in
+      let bd = few-times in
+      record {
+        keysLeft = gk ∙ sym (nodes-count valueStays (keyBody w) (valEndBody w) val-rows);
+        valsLeft = gv ∙ sym (nodes-count timeStays (valBody w) (timeEndBody w) time-rows);
+        timesLeft = gt;
+        fewKeys = omega arith;
+        fewVals = omega arith;
+        fewTimes = omega arith;
+        fits = omega arith;
+      }
+
+  -- what is written is the chunk
+  pub its-words : (k v t : ℕ) → k ≡ countKept keyStays 0 (length (keyBody w) - 0) → v ≡ countKept valueStays 0 (length (valBody w) - 0)
+      → t ≡ countKept timeStays 0 (length (timeBody w) - 0)
+      → layersOut timeStays (keyBody w) (valEndBody w) (valBody w) (timeEndBody w) (timeBody w) (diffEndBody w) (diffBody w) k v t ≡ chunkOf fs
+  its-words k v t hk hv ht =
+      let zk : length (keyBody w) - 0 ≡ length (keyBody w) = omega arith in
+      let zv : length (valBody w) - 0 ≡ length (valBody w) = omega arith in
+      let zt : length (timeBody w) - 0 ≡ length (timeBody w) = omega arith in
+      (λ i. layersOut timeStays (keyBody w) (valEndBody w) (valBody w) (timeEndBody w) (timeBody w) (diffEndBody w) (diffBody w)
+      ((hk ∙ ap (countKept keyStays 0) zk) i) ((hv ∙ ap (countKept valueStays 0) zv) i) ((ht ∙ ap (countKept timeStays 0) zt) i))
+      ∙ sym retained

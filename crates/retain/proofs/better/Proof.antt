@@ -1,0 +1,34 @@
+-- `retain::better` meets its contract, test by test.
+use mathlib.Core.Path.{_≡_, refl, sym, _∙_, ap}
+use mathlib.Core.Bool.{Bool, true, false}
+use Rattle.laws.proofs.Tests.{and-false}
+use borrow.Author.Tests.{lt-ltb, le-ltb, not-true, not-false}
+use borrow.Author.Needs.{needs}
+use borrow.Author.Needs.{needs}
+use Rattle.retain.proofs.better.Statement.{statement}
+use Rattle.retain.proofs.better.Tie as tie
+use Rattle.retain.proofs.better.Reads as reads
+use Rattle.retain.proofs.better.Lts as lts
+use Rattle.retain.proofs.stay.is_open.Reads as is-open-reads
+
+returns : tie.Need-returns
+returns c = simp (le-ltb _ _ (c .if1 .taken))
+
+is-open-requires : tie.Need-is-open-requires
+is-open-requires c κs = search needs
+
+returns-2 : tie.Need-returns-2
+returns-2 c = c .is-open .ensures ∙ simp (lt-ltb _ _ (c .before .before .if1 .left), not-true (c .before .before .before .before .args .found) (c .before .if2 .taken))
+
+returns-3 : tie.Need-returns-3
+returns-3 c = simp (lt-ltb _ _ (c .before .before .if1 .left), not-false (c .before .before .before .before .args .found) (c .before .if2 .left), le-ltb _ _ (c .if3 .taken), and-false)
+
+is-open-requires-2 : tie.Need-is-open-requires-2
+is-open-requires-2 c κs = search needs
+
+returns-4 : tie.Need-returns-4
+returns-4 c = c .is-open2 .ensures ∙ simp (lt-ltb _ _ (c .before .before .before .if1 .left), not-false (c .before .before .before .before .before .args .found) (c .before .before .if2 .left), lt-ltb _ _ (c .before .if3 .left))
+
+pub better-spec : {M : Type 1} → statement M
+better-spec =
+    tie.close (tie.spec returns is-open-requires returns-2 returns-3 is-open-requires-2 returns-4)

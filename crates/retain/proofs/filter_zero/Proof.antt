@@ -1,0 +1,96 @@
+-- `retain::filter_zero` meets its contract: each refusal leaves the output, and what is retained is what stands.
+use Prim.Native.Nat.{ℕ, zero, suc, _<_, _≤_}
+use mathlib.Core.Path.{_≡_, refl, sym, _∙_, ap}
+use mathlib.Core.Bool.{Bool, true, false, not}
+use mathlib.Core.List.{List, []}
+use native.Mathlib.Omega.{arith}
+use lib.ListN.{length}
+use lib.Dec.{ltb}
+use borrow.Author.Tests.{lt-ltb, le-ltb}
+use Rattle.chunk.specs.Entry.{Entry, keep, stands}
+use Rattle.chunk.specs.Bodies.{chunkOf}
+use Rattle.chunk.specs.Words.{wellFormed, entries, size, over}
+use Rattle.chunk.specs.Refusal.{first, written}
+use Rattle.retain.specs.Cut.{filterNumber, filterOut}
+use Rattle.retain.specs.Frontier.{ordered}
+use Rattle.retain.proofs.Checked.{Passed, passed, Failed, failed}
+use Rattle.retain.proofs.Picks.{retained-all}
+use borrow.Author.Needs.{needs}
+use borrow.Author.Needs.{needs}
+use Rattle.retain.proofs.filter_zero.Statement.{statement}
+use Rattle.retain.proofs.filter_zero.Tie as tie
+use Rattle.retain.proofs.filter_zero.Reads as reads
+use Rattle.retain.proofs.filter_zero.Lts as lts
+use Rattle.chunk.proofs.check.Reads as check-reads
+use Rattle.retain.proofs.retain_items.Reads as retain-items-reads
+
+-- the number, and what the output holds
+Answer : ℕ → List ℕ → List ℕ → List ℕ → Type 0
+Answer r after w out = (r ≡ filterNumber w out) × (after ≡ filterOut w out)
+
+malformed : (w out : List ℕ) → wellFormed w ≡ false → Answer 5 out w out
+unfolding Answer filterNumber filterOut first written
+malformed w out h = (simp h, simp h)
+
+short : (w out : List ℕ) → wellFormed w ≡ true → length out < size w → Answer 13 out w out
+unfolding Answer filterNumber filterOut first written
+short w out h k = let q = lt-ltb (length out) (size w) k in (simp (h, q), simp (h, q))
+
+accepted : (w out after : List ℕ) → wellFormed w ≡ true → size w ≤ length out → after ≡ over (chunkOf (keep stands (entries w))) out → Answer 0 after w out
+unfolding Answer filterNumber filterOut first written
+accepted w out after h k e = let q = le-ltb (length out) (size w) k in (simp (h, q), e ∙ simp (h, q))
+
+check-requires : tie.Need-check-requires
+check-requires c κs = search needs
+
+returns : tie.Need-returns
+unfolding Answer
+returns c = let a = c .before .before .before .before .args in malformed (a .words .now) (a .out .now) (failed _ (a .words .now) (c .before .check .ensures) (c .if1 .taken) .formed)
+
+returns-2 : tie.Need-returns-2
+unfolding Answer
+returns-2 c =
+    let a = c .before .before .before .before .before .before .args in
+    let p = passed _ (a .words .now) (c .before .before .before .check .ensures) (c .before .before .if1 .left) in
+    short (a .words .now) (a .out .now) (p .formed) (omega (arith, p .spread .sized))
+
+sub-retain-items : tie.Need-sub-retain-items
+sub-retain-items c = search needs
+
+part-retain-items-start : tie.Need-part-retain-items-start
+part-retain-items-start c = search needs
+
+part-retain-items-end : tie.Need-part-retain-items-end
+part-retain-items-end c = search needs
+
+retain-items-requires : tie.Need-retain-items-requires
+unfolding ordered
+retain-items-requires c κs =
+    let a = c .before .before .before .before .before .before .before .before .args in
+    let p = passed _ (a .words .now) (c .before .before .before .before .before .check .ensures) (c .before .before .before .before .if1 .left) in
+    ((p .formed, p .spread), (refl, omega (arith, p .spread .sized)))
+
+same-length : tie.Need-same-length
+same-length c = search needs
+
+returns-3 : tie.Need-returns-3
+unfolding Answer
+returns-3 c =
+    let a = c .before .before .before .before .before .before .before .before .before .before .before .args in
+    let p = passed _ (a .words .now) (c .before .before .before .before .before .before .before .before .check .ensures) (c .before .before .before .before .before .before .before .if1 .left) in
+    accepted (a .words .now) (a .out .now) _ (p .formed) (omega (arith, p .spread .sized))
+    (c .before .before .retain-items .ensures ∙ ap (λ (es : List Entry). over (chunkOf es) (a .out .now)) (retained-all (a .words .now) (p .formed) _))
+
+pub filter-zero-spec : {M : Type 1} → statement M
+filter-zero-spec =
+    tie.close
+    (tie.spec
+    check-requires
+    returns
+    returns-2
+    sub-retain-items
+    part-retain-items-start
+    part-retain-items-end
+    retain-items-requires
+    same-length
+    returns-3)

@@ -1,0 +1,225 @@
+-- `retain::retain_items` meets its contract: the parts cut out are the bodies, and what is written of them is the chunk of what stays.
+use Prim.Native.Nat.{ℕ, zero, suc, _+_, _-_, _*_, _<_, _≤_}
+use mathlib.Core.Path.{_≡_, refl, sym, _∙_, ap}
+use mathlib.Core.Bool.{Bool, true, false}
+use mathlib.Core.List.{List, [], _∷_, _++_}
+use native.Mathlib.Omega.{arith}
+use lib.ListN.{length, take, drop}
+use Rattle.chunk.specs.declared.Contents.{Contents}
+use Rattle.chunk.specs.Words.{wellFormed, size, over, entries, keyBody, valEndBody, valBody, timeEndBody, timeBody, diffEndBody, diffBody}
+use Rattle.chunk.specs.Bodies.{chunkOf}
+use Rattle.chunk.specs.Contents.{Placed}
+use Rattle.chunk.proofs.Placed.{cut-keys, cut-val-ends, cut-vals, cut-time-ends, cut-times, cut-diff-ends, cut-diffs, length-times, length-diff-ends}
+use Rattle.retain.specs.declared.Keep.{Keep}
+use Rattle.retain.specs.Keep.{keepsAt, timeKept, retainedOf}
+use Rattle.retain.specs.Layers.{countKept, listKept, pick, Bodies, Left, layersOut}
+use Rattle.retain.proofs.Retained.{its-bodies, its-left, its-words}
+use borrow.Author.Needs.{needs}
+use Rattle.retain.proofs.retain_items.Statement.{statement}
+use Rattle.retain.proofs.retain_items.Tie as tie
+use Rattle.retain.proofs.retain_items.Reads as reads
+use Rattle.retain.proofs.retain_items.Lts as lts
+use Rattle.retain.proofs.stay.count_keys.Reads as count-keys-reads
+use Rattle.retain.proofs.stay.count_times.Reads as count-times-reads
+use Rattle.retain.proofs.stay.count_values.Reads as count-values-reads
+use Rattle.retain.proofs.write_bodies.Reads as write-bodies-reads
+
+-- what the parts of a slice are, by the places of its contents
+module _ (found : Contents) (w : List ℕ) (p : Placed found w) (formed : wellFormed w ≡ true) (keep : Keep) (corners : List ℕ) where
+  abbrev keys : List ℕ
+  keys = take (found .«val_ends_at» - found .«keys_at») (drop (found .«keys_at») w)
+
+  abbrev valEnds : List ℕ
+  valEnds = take (found .«vals_at» - found .«val_ends_at») (drop (found .«val_ends_at») w)
+
+  abbrev vals : List ℕ
+  vals = take (found .«time_ends_at» - found .«vals_at») (drop (found .«vals_at») w)
+
+  abbrev timeEnds : List ℕ
+  timeEnds = take (found .«times_at» - found .«time_ends_at») (drop (found .«time_ends_at») w)
+
+  abbrev times : List ℕ
+  times = take (found .«diff_ends_at» - found .«times_at») (drop (found .«times_at») w)
+
+  abbrev diffEnds : List ℕ
+  diffEnds = take (found .«diffs_at» - found .«diff_ends_at») (drop (found .«diff_ends_at») w)
+
+  abbrev diffs : List ℕ
+  diffs = take (found .size - found .«diffs_at») (drop (found .«diffs_at») w)
+
+  -- whether a time stays
+  abbrev stays : ℕ → Bool
+  stays = timeKept keep times corners diffEnds
+
+  rows : length diffEnds ≤ length times
+  rows =
+      let a = ap length (cut-diff-ends found w p) in let b = ap length (cut-times found w p) in
+      let d = length-diff-ends found w p in let e = length-times found w p in omega arith
+
+  fit : Bodies keys valEnds vals timeEnds times diffEnds diffs
+  fit =
+      rw (cut-keys found w p, cut-val-ends found w p, cut-vals found w p, cut-time-ends found w p, cut-times found w p, cut-diff-ends found w p, cut-diffs found w p)
+      (its-bodies w formed (λ i. true))
+
+  left : (k v t room : ℕ) → k ≡ countKept (listKept (listKept stays timeEnds) valEnds) 0 (length keys - 0) → v ≡ countKept (listKept stays timeEnds) 0 (length vals - 0)
+      → t ≡ countKept stays 0 (length times - 0) → size w ≤ room → Left stays keys valEnds vals timeEnds times k v t room
+  left =
+      rw (cut-keys found w p, cut-val-ends found w p, cut-vals found w p, cut-time-ends found w p, cut-times found w p, cut-diff-ends found w p)
+      (its-left w formed (keepsAt keep (timeBody w) corners))
+
+  in-words : (k v t : ℕ) → k ≡ countKept (listKept (listKept stays timeEnds) valEnds) 0 (length keys - 0) → v ≡ countKept (listKept stays timeEnds) 0 (length vals - 0)
+      → t ≡ countKept stays 0 (length times - 0)
+      → layersOut stays keys valEnds vals timeEnds times diffEnds diffs k v t ≡ chunkOf (pick (timeKept keep (timeBody w) corners (diffEndBody w)) 0 (entries w))
+  in-words =
+      rw (cut-keys found w p, cut-val-ends found w p, cut-vals found w p, cut-time-ends found w p, cut-times found w p, cut-diff-ends found w p, cut-diffs found w p)
+      (its-words w formed (keepsAt keep (timeBody w) corners))
+
+  words : (k v t : ℕ) (out : List ℕ) → k ≡ countKept (listKept (listKept stays timeEnds) valEnds) 0 (length keys - 0) → v ≡ countKept (listKept stays timeEnds) 0 (length vals - 0)
+      → t ≡ countKept stays 0 (length times - 0) → over (layersOut stays keys valEnds vals timeEnds times diffEnds diffs k v t) out ≡ over (chunkOf (retainedOf keep corners w)) out
+  unfolding retainedOf
+  words k v t out hk hv ht = ap (λ (l : List ℕ). over l out) (in-words k v t hk hv ht)
+
+mul-keys : tie.Need-mul-keys
+mul-keys c = search needs
+
+sub-keys : tie.Need-sub-keys
+sub-keys c = search needs
+
+part-keys-start : tie.Need-part-keys-start
+part-keys-start c = search needs
+
+part-keys-end : tie.Need-part-keys-end
+part-keys-end c = search needs
+
+mul-val-ends : tie.Need-mul-val-ends
+mul-val-ends c = search needs
+
+sub-val-ends : tie.Need-sub-val-ends
+sub-val-ends c = search needs
+
+part-val-ends-start : tie.Need-part-val-ends-start
+part-val-ends-start c = search needs
+
+part-val-ends-end : tie.Need-part-val-ends-end
+part-val-ends-end c = search needs
+
+mul-vals : tie.Need-mul-vals
+mul-vals c = search needs
+
+sub-vals : tie.Need-sub-vals
+sub-vals c = search needs
+
+part-vals-start : tie.Need-part-vals-start
+part-vals-start c = search needs
+
+part-vals-end : tie.Need-part-vals-end
+part-vals-end c = search needs
+
+mul-time-ends : tie.Need-mul-time-ends
+mul-time-ends c = search needs
+
+sub-time-ends : tie.Need-sub-time-ends
+sub-time-ends c = search needs
+
+part-time-ends-start : tie.Need-part-time-ends-start
+part-time-ends-start c = search needs
+
+part-time-ends-end : tie.Need-part-time-ends-end
+part-time-ends-end c = search needs
+
+mul-times : tie.Need-mul-times
+mul-times c = search needs
+
+sub-times : tie.Need-sub-times
+sub-times c = search needs
+
+part-times-start : tie.Need-part-times-start
+part-times-start c = search needs
+
+part-times-end : tie.Need-part-times-end
+part-times-end c = search needs
+
+mul-diff-ends : tie.Need-mul-diff-ends
+mul-diff-ends c = search needs
+
+sub-diff-ends : tie.Need-sub-diff-ends
+sub-diff-ends c = search needs
+
+part-diff-ends-start : tie.Need-part-diff-ends-start
+part-diff-ends-start c = search needs
+
+part-diff-ends-end : tie.Need-part-diff-ends-end
+part-diff-ends-end c = search needs
+
+mul-diffs : tie.Need-mul-diffs
+mul-diffs c = search needs
+
+sub-diffs : tie.Need-sub-diffs
+sub-diffs c = search needs
+
+part-diffs-start : tie.Need-part-diffs-start
+part-diffs-start c = search needs
+
+part-diffs-end : tie.Need-part-diffs-end
+part-diffs-end c = search needs
+
+count-keys-requires : tie.Need-count-keys-requires
+count-keys-requires c κs = let a = c .before .before .before .before .before .before .before .before .before .before in (rows (a .args .found) (a .args .words .now) (a .pre .0 .1) (a .pre .0 .0) (a .args .keep) (a .args .corners .now), a .pre .1 .0)
+
+count-values-requires : tie.Need-count-values-requires
+count-values-requires c κs = let a = c .before .before .before .before .before .before .before .before .before .before .before in (rows (a .args .found) (a .args .words .now) (a .pre .0 .1) (a .pre .0 .0) (a .args .keep) (a .args .corners .now), a .pre .1 .0)
+
+count-times-requires : tie.Need-count-times-requires
+count-times-requires c κs = let a = c .before .before .before .before .before .before .before .before .before .before .before .before in (rows (a .args .found) (a .args .words .now) (a .pre .0 .1) (a .pre .0 .0) (a .args .keep) (a .args .corners .now), a .pre .1 .0)
+
+write-bodies-requires : tie.Need-write-bodies-requires
+write-bodies-requires c κs =
+    let a = c .before .before .before .before .before .before .before .before .before .before .before .before .before .before in
+    (a .pre .1 .0, (fit (a .args .found) (a .args .words .now) (a .pre .0 .1) (a .pre .0 .0) (a .args .keep) (a .args .corners .now), left (a .args .found) (a .args .words .now) (a .pre .0 .1) (a .pre .0 .0) (a .args .keep) (a .args .corners .now) _ _ _ _ (c .before .before .before .count-keys .ensures) (c .before .before .count-values .ensures) (c .before .count-times .ensures) (a .pre .1 .1)))
+
+same-length : tie.Need-same-length
+same-length c = search needs
+
+returns : tie.Need-returns
+returns c =
+    let a = c .before .before .before .before .before .before .before .before .before .before .before .before .before .before .before .before .before in
+    c .before .before .write-bodies .ensures ∙ words (a .args .found) (a .args .words .now) (a .pre .0 .1) (a .pre .0 .0) (a .args .keep) (a .args .corners .now) _ _ _ _ (c .before .before .before .before .before .before .count-keys .ensures) (c .before .before .before .before .before .count-values .ensures) (c .before .before .before .before .count-times .ensures)
+
+pub retain-items-spec : {M : Type 1} → statement M
+retain-items-spec =
+    tie.close
+    (tie.spec
+    mul-keys
+    sub-keys
+    part-keys-start
+    part-keys-end
+    mul-val-ends
+    sub-val-ends
+    part-val-ends-start
+    part-val-ends-end
+    mul-vals
+    sub-vals
+    part-vals-start
+    part-vals-end
+    mul-time-ends
+    sub-time-ends
+    part-time-ends-start
+    part-time-ends-end
+    mul-times
+    sub-times
+    part-times-start
+    part-times-end
+    mul-diff-ends
+    sub-diff-ends
+    part-diff-ends-start
+    part-diff-ends-end
+    mul-diffs
+    sub-diffs
+    part-diffs-start
+    part-diffs-end
+    count-keys-requires
+    count-values-requires
+    count-times-requires
+    write-bodies-requires
+    same-length
+    returns)

@@ -1,0 +1,149 @@
+-- `retain::split_at` meets its contract: each refusal leaves both outputs, and what is retained is what is below n, and the rest.
+use Prim.Native.Nat.{ℕ, zero, suc, _<_, _≤_}
+use mathlib.Core.Path.{_≡_, refl, sym, _∙_, ap}
+use mathlib.Core.Bool.{Bool, true, false, not}
+use mathlib.Core.List.{List, []}
+use native.Mathlib.Omega.{arith}
+use lib.ListN.{length, take, drop}
+use lib.Dec.{ltb}
+use borrow.Author.Tests.{lt-ltb, le-ltb, not-true, not-false}
+use Rattle.chunk.specs.Entry.{Entry, every, stands}
+use Rattle.chunk.specs.Bodies.{chunkOf}
+use Rattle.chunk.specs.Words.{wellFormed, settled, entries, size, over}
+use Rattle.chunk.specs.Refusal.{first, written}
+use Rattle.laws.proofs.OneChunk.{settled-stands}
+use Rattle.retain.specs.Cut.{Split, splitNumber, splitFirst, splitRest}
+use Rattle.retain.specs.Frontier.{ordered}
+use Rattle.retain.proofs.Checked.{Passed, passed, Failed, failed}
+use Rattle.retain.proofs.Picks.{retained-below, retained-from}
+use borrow.Author.Needs.{needs}
+use borrow.Author.Needs.{needs}
+use Rattle.retain.proofs.split_at.Statement.{statement}
+use Rattle.retain.proofs.split_at.Tie as tie
+use Rattle.retain.proofs.split_at.Reads as reads
+use Rattle.retain.proofs.split_at.Lts as lts
+use Rattle.chunk.proofs.check.Reads as check-reads
+use Rattle.retain.proofs.retain_items.Reads as retain-items-reads
+
+malformed : (w : List ℕ) (n : ℕ) (one two : List ℕ) → wellFormed w ≡ false → Split 5 one two w n one two
+unfolding splitNumber splitFirst splitRest first written
+malformed w n one two h = record { number = simp h; first = simp h; rest = simp h }
+
+unsettled : (w : List ℕ) (n : ℕ) (one two : List ℕ) → wellFormed w ≡ true → settled w ≡ false → Split 6 one two w n one two
+unfolding splitNumber splitFirst splitRest first written
+unsettled w n one two h s = record { number = simp (h, s); first = simp (h, s); rest = simp (h, s) }
+
+short-first : (w : List ℕ) (n : ℕ) (one two : List ℕ) → wellFormed w ≡ true → settled w ≡ true → length one < size w → Split 13 one two w n one two
+unfolding splitNumber splitFirst splitRest first written
+short-first w n one two h s k =
+    let q = lt-ltb (length one) (size w) k in record { number = simp (h, s, q); first = simp (h, s, q); rest = simp (h, s, q) }
+
+short-rest : (w : List ℕ) (n : ℕ) (one two : List ℕ) → wellFormed w ≡ true → settled w ≡ true → size w ≤ length one → length two < size w → Split 13 one two w n one two
+unfolding splitNumber splitFirst splitRest first written
+short-rest w n one two h s j k =
+    let p = le-ltb (length one) (size w) j in let q = lt-ltb (length two) (size w) k in
+    record { number = simp (h, s, p, q); first = simp (h, s, p, q); rest = simp (h, s, p, q) }
+
+accepted : (w : List ℕ) (n : ℕ) (one two oneAfter twoAfter : List ℕ) → wellFormed w ≡ true → settled w ≡ true → size w ≤ length one → size w ≤ length two
+    → oneAfter ≡ over (chunkOf (take n (entries w))) one → twoAfter ≡ over (chunkOf (drop n (entries w))) two → Split 0 oneAfter twoAfter w n one two
+unfolding splitNumber splitFirst splitRest first written
+accepted w n one two oneAfter twoAfter h s j k d e =
+    let p = le-ltb (length one) (size w) j in let q = le-ltb (length two) (size w) k in
+    record { number = simp (h, s, p, q); first = d ∙ simp (h, s, p, q); rest = e ∙ simp (h, s, p, q) }
+
+check-requires : tie.Need-check-requires
+check-requires c κs = search needs
+
+returns : tie.Need-returns
+returns c =
+    let a = c .before .before .before .before .before .args in
+    malformed (a .words .now) (a .n) (a .first .now) (a .rest .now) (failed _ (a .words .now) (c .before .check .ensures) (c .if1 .taken) .formed)
+
+returns-2 : tie.Need-returns-2
+returns-2 c =
+    let a = c .before .before .before .before .before .before .args in
+    let p = passed _ (a .words .now) (c .before .before .check .ensures) (c .before .if1 .left) in
+    unsettled (a .words .now) (a .n) (a .first .now) (a .rest .now) (p .formed) (sym (p .settles) ∙ not-true _ (c .if2 .taken))
+
+returns-3 : tie.Need-returns-3
+returns-3 c =
+    let a = c .before .before .before .before .before .before .before .before .args in
+    let p = passed _ (a .words .now) (c .before .before .before .before .check .ensures) (c .before .before .before .if1 .left) in
+    let s : settled (a .words .now) ≡ true = sym (p .settles) ∙ not-false _ (c .before .before .if2 .left) in
+    short-first (a .words .now) (a .n) (a .first .now) (a .rest .now) (p .formed) s (omega (arith, p .spread .sized))
+
+returns-4 : tie.Need-returns-4
+returns-4 c =
+    let a = c .before .before .before .before .before .before .before .before .before .args in
+    let p = passed _ (a .words .now) (c .before .before .before .before .before .check .ensures) (c .before .before .before .before .if1 .left) in
+    let s : settled (a .words .now) ≡ true = sym (p .settles) ∙ not-false _ (c .before .before .before .if2 .left) in
+    short-rest (a .words .now) (a .n) (a .first .now) (a .rest .now) (p .formed) s (omega (arith, p .spread .sized)) (omega (arith, p .spread .sized))
+
+sub-retain-items : tie.Need-sub-retain-items
+sub-retain-items c = search needs
+
+part-retain-items-start : tie.Need-part-retain-items-start
+part-retain-items-start c = search needs
+
+part-retain-items-end : tie.Need-part-retain-items-end
+part-retain-items-end c = search needs
+
+retain-items-requires : tie.Need-retain-items-requires
+unfolding ordered
+retain-items-requires c κs =
+    let a = c .before .before .before .before .before .before .before .before .before .before .before .args in
+    let p = passed _ (a .words .now) (c .before .before .before .before .before .before .before .check .ensures) (c .before .before .before .before .before .before .if1 .left) in
+    ((p .formed, p .spread), (refl, omega (arith, p .spread .sized)))
+
+sub-retain-items-2 : tie.Need-sub-retain-items-2
+sub-retain-items-2 c = search needs
+
+part-retain-items-start-2 : tie.Need-part-retain-items-start-2
+part-retain-items-start-2 c = search needs
+
+part-retain-items-end-2 : tie.Need-part-retain-items-end-2
+part-retain-items-end-2 c = search needs
+
+retain-items-requires-2 : tie.Need-retain-items-requires-2
+unfolding ordered
+retain-items-requires-2 c κs =
+    let a = c .before .before .before .before .before .before .before .before .before .before .before .before .before .before .before .before .args in
+    let p = passed _ (a .words .now) (c .before .before .before .before .before .before .before .before .before .before .before .before .check .ensures) (c .before .before .before .before .before .before .before .before .before .before .before .if1 .left) in
+    ((p .formed, p .spread), (refl, omega (arith, p .spread .sized)))
+
+same-length : tie.Need-same-length
+same-length c = search needs
+
+same-length-2 : tie.Need-same-length-2
+same-length-2 c = search needs
+
+returns-5 : tie.Need-returns-5
+returns-5 c =
+    let a = c .before .before .before .before .before .before .before .before .before .before .before .before .before .before .before .before .before .before .before .args in
+    let p = passed _ (a .words .now) (c .before .before .before .before .before .before .before .before .before .before .before .before .before .before .before .check .ensures) (c .before .before .before .before .before .before .before .before .before .before .before .before .before .before .if1 .left) in
+    let s : settled (a .words .now) ≡ true = sym (p .settles) ∙ not-false _ (c .before .before .before .before .before .before .before .before .before .before .before .before .before .if2 .left) in
+    let v : every stands (entries (a .words .now)) ≡ true = sym (settled-stands (a .words .now) (p .formed)) ∙ s in
+    accepted (a .words .now) (a .n) (a .first .now) (a .rest .now) _ _ (p .formed) s (omega (arith, p .spread .sized)) (omega (arith, p .spread .sized))
+    (c .before .before .before .before .before .before .before .retain-items .ensures ∙ ap (λ (es : List Entry). over (chunkOf es) (a .first .now)) (retained-below (a .words .now) (p .formed) _ v (a .n)))
+    (c .before .before .retain-items2 .ensures ∙ ap (λ (es : List Entry). over (chunkOf es) (a .rest .now)) (retained-from (a .words .now) (p .formed) _ v (a .n)))
+
+pub split-at-spec : {M : Type 1} → statement M
+split-at-spec =
+    tie.close
+    (tie.spec
+    check-requires
+    returns
+    returns-2
+    returns-3
+    returns-4
+    sub-retain-items
+    part-retain-items-start
+    part-retain-items-end
+    retain-items-requires
+    sub-retain-items-2
+    part-retain-items-start-2
+    part-retain-items-end-2
+    retain-items-requires-2
+    same-length
+    same-length-2
+    returns-5)

@@ -1,0 +1,37 @@
+-- Which records stay (document 01): of a filter all that have a diff; of a split the first n, or the rest; of an extract the open ones
+-- ("a time is open if some corner of the frontier is at or below it in ignition AND in tick"), or the others.
+use Prim.Native.Nat.{ℕ}
+use mathlib.Core.Bool.{Bool, true, false, not, _&&_}
+use mathlib.Core.List.{List}
+use lib.Dec.{leb, ltb}
+use lib.ListN.{getD}
+use Rattle.chunk.specs.Entry.{Entry}
+use Rattle.chunk.specs.Words.{entries, timeBody, diffEndBody}
+use Rattle.retain.specs.declared.Keep.{Keep}
+use Rattle.retain.specs.declared.Keep.the-variants.{All, Below, From, Open, Shut}
+use Rattle.retain.specs.declared.Level.{Level}
+use Rattle.retain.specs.declared.Level.the-variants.{Values, Keys}
+use Rattle.retain.specs.Frontier.{isOpen}
+use Rattle.retain.specs.Layers.{hasDiff, listKept, pick}
+
+-- whether time i stays, if it has a diff
+abbrev pub keepsAt : Keep → List ℕ → List ℕ → ℕ → Bool
+keepsAt All times corners i = true
+keepsAt (Below n) times corners i = ltb i n
+keepsAt (From n) times corners i = leb n i
+keepsAt Open times corners i = isOpen corners (getD times i 0)
+keepsAt Shut times corners i = not (isOpen corners (getD times i 0))
+
+-- whether time i has a diff and stays
+abbrev pub timeKept : Keep → List ℕ → List ℕ → List ℕ → ℕ → Bool
+timeKept keep times corners diffEnds i = hasDiff diffEnds i && keepsAt keep times corners i
+
+-- whether an item of a list of this level stays: a time by itself, a value by its times
+abbrev pub below : Level → (ℕ → Bool) → List ℕ → ℕ → Bool
+below Values m timeEnds i = m i
+below Keys m timeEnds i = listKept m timeEnds i
+
+-- the entries of a chunk that stay
+unfoldable pub retainedOf : Keep → List ℕ → List ℕ → List Entry
+unfolding entries pick
+retainedOf keep corners w = pick (timeKept keep (timeBody w) corners (diffEndBody w)) 0 (entries w)

@@ -1,0 +1,98 @@
+-- The core of filter, split and extract (document 01: "Times without a diff go, then values and keys left without children"):
+-- the non-empty lists once items are filtered, layer above layer. Which items are filtered out is a test on their index.
+use Prim.Native.Nat.{ℕ, zero, suc, _+_, _-_, _*_, _<_, _≤_}
+use mathlib.Core.Path.{_≡_}
+use mathlib.Core.Bool.{Bool, true, false, cond, not, _&&_}
+use mathlib.Core.List.{List, [], _∷_, _++_}
+use lib.Dec.{leb, ltb}
+use lib.ListN.{length, getD}
+use Rattle.chunk.specs.Words.{risesFrom, limit, tableSize}
+use Rattle.chunk.specs.Contents.{startOf, tableOf}
+use Rattle.retain.specs.Frontier.{isOpen}
+
+-- how many of the n items from index i on pass
+unfoldable pub countKept : (ℕ → Bool) → ℕ → ℕ → ℕ
+countKept m i zero = 0
+countKept m i (suc n) = cond (m i) (suc (countKept m (suc i) n)) (countKept m (suc i) n)
+
+-- the items that pass, the first one's index being i
+unfoldable pub pick : {A : Type 0} → (ℕ → Bool) → ℕ → List A → List A
+pick m i [] = []
+pick m i (x ∷ xs) = cond (m i) (x ∷ pick m (suc i) xs) (pick m (suc i) xs)
+
+-- what f says at each of the n indices from i on that pass
+unfoldable pub pickAt : (ℕ → Bool) → (ℕ → ℕ) → ℕ → ℕ → List ℕ
+pickAt m f i zero = []
+pickAt m f i (suc n) = cond (m i) (f i ∷ pickAt m f (suc i) n) (pickAt m f (suc i) n)
+
+-- the numbers after n, k of them
+unfoldable pub countUp : ℕ → ℕ → List ℕ
+countUp n zero = []
+countUp n (suc k) = suc n ∷ countUp (suc n) k
+
+-- of each item whose list still has one: what g makes of it and of the count of items kept up to its list's end. The lists are cut at
+-- their ends, the first starts at index i, and c items are kept before it
+unfoldable pub nodes : {A B : Type 0} → (ℕ → Bool) → (A → ℕ → B) → ℕ → ℕ → List A → List ℕ → List B
+unfolding countKept
+nodes m g i c [] ends = []
+nodes m g i c (x ∷ xs) [] = []
+nodes m g i c (x ∷ xs) (e ∷ ends) =
+    let n : ℕ = countKept m i (e - i) in
+    cond (ltb 0 n) (g x (c + n) ∷ nodes m g e (c + n) xs ends) (nodes m g e (c + n) xs ends)
+
+-- the item of a node, and its list's new end
+abbrev pub itemOf : {A : Type 0} → A → ℕ → A
+itemOf x n = x
+
+-- an item's end
+abbrev pub endOf : {A : Type 0} → A → ℕ → ℕ
+endOf x n = n
+
+-- a layer's items that have a list left, and after them the ends of those lists
+abbrev pub nodesOut : (ℕ → Bool) → List ℕ → List ℕ → List ℕ
+nodesOut m items ends = nodes m itemOf 0 0 items ends ++ nodes m endOf 0 0 items ends
+
+-- whether list i has an item that passes
+unfoldable pub listKept : (ℕ → Bool) → List ℕ → ℕ → Bool
+unfolding countKept
+listKept m ends i = ltb 0 (countKept m (startOf ends i) (getD ends i 0 - startOf ends i))
+
+-- whether time i has a diff
+abbrev pub hasDiff : List ℕ → ℕ → Bool
+hasDiff diffEnds i = ltb (startOf diffEnds i) (getD diffEnds i 0)
+
+-- the times that stay, then the ends of their lists, one diff each, then the diffs
+abbrev pub leavesOut : (ℕ → Bool) → List ℕ → List ℕ → List ℕ → List ℕ
+leavesOut m times diffEnds diffs =
+    let n : ℕ = length times in
+    pickAt m (λ (t : ℕ). getD times t 0) 0 n
+    ++ (countUp 0 (countKept m 0 n) ++ pickAt m (λ (t : ℕ). getD diffs (startOf diffEnds t) 0) 0 n)
+
+-- a list that has an item starts below the count of items
+abbrev pub EndsWithin : List ℕ → ℕ → Type 0
+EndsWithin ends n = (i : ℕ) → hasDiff ends i ≡ true → startOf ends i < n
+
+-- seven bodies that belong together: as many ends as items above them, ends that rise, and diffs where the diff ends say
+pub record Bodies (keys valEnds vals timeEnds times diffEnds diffs : List ℕ) : Type 0 where
+  pub keyRows : length keys ≡ length valEnds
+  pub valRows : length vals ≡ length timeEnds
+  pub timeRows : length diffEnds ≡ length times
+  pub valEndsRise : risesFrom 0 valEnds ≡ true
+  pub timeEndsRise : risesFrom 0 timeEnds ≡ true
+  pub diffsWithin : EndsWithin diffEnds (length diffs)
+
+-- what is left of each layer, within the limit, and room for its chunk
+pub record Left (m : ℕ → Bool) (keys valEnds vals timeEnds times : List ℕ) (k v t room : ℕ) : Type 0 where
+  pub keysLeft : k ≡ length (nodes (listKept m timeEnds) itemOf 0 0 keys valEnds)
+  pub valsLeft : v ≡ length (nodes m itemOf 0 0 vals timeEnds)
+  pub timesLeft : t ≡ countKept m 0 (length times)
+  pub fewKeys : k ≤ limit
+  pub fewVals : v ≤ limit
+  pub fewTimes : t ≤ limit
+  pub fits : tableSize + 2 * k + 2 * v + 2 * t + t ≤ room
+
+-- the words of what stays of seven bodies: the table, the keys and their ends, the values and theirs, the times, theirs and the diffs
+abbrev pub layersOut : (ℕ → Bool) → List ℕ → List ℕ → List ℕ → List ℕ → List ℕ → List ℕ → List ℕ → ℕ → ℕ → ℕ → List ℕ
+layersOut m keys valEnds vals timeEnds times diffEnds diffs k v t =
+    tableOf k v t t
+    ++ (nodesOut (listKept m timeEnds) keys valEnds ++ (nodesOut m vals timeEnds ++ leavesOut m times diffEnds diffs))

@@ -1,0 +1,518 @@
+ghost use mathlib.Core.Path.{_≡_};
+ghost use mathlib.Core.Bool.{true, false};
+ghost use Prim.Native.Nat.{ℕ, _+_, _-_, _≤_, _<_, _^_};
+ghost use lib.ListN.{length};
+ghost use Rattle.retain.specs.Frontier.{isOpen, ordered, leastOf, sound};
+ghost use Rattle.retain.specs.Found.{emptyFrontier, leastFrom, betterThan, cornersOf};
+ghost use Rattle.chunk.specs.Entry.{keep};
+ghost use Rattle.retain.specs.Answer.{verdictBy, refusedBy, Parted, Extraction};
+ghost use Rattle.retain.specs.Keep.{keepsAt, timeKept, below, retainedOf};
+ghost use Rattle.retain.specs.Layers.{countKept, listKept, nodes, itemOf, nodesOut, leavesOut, EndsWithin, Bodies, Left, layersOut};
+ghost use Rattle.chunk.specs.Words.{risesFrom, wellFormed, settled, size, over, entries};
+ghost use Rattle.chunk.specs.Contents.{Placed};
+ghost use Rattle.chunk.specs.Bodies.{chunkOf};
+ghost use Rattle.retain.specs.Cut.{filterNumber, filterOut, Split};
+use chunk::Contents;
+use stay::count_below;
+use stay::count_keys;
+use stay::count_times;
+use stay::count_values;
+use stay::is_open;
+use stay::time_kept;
+
+mod stay;
+
+// Which times that have a diff stay: every one, those with an index below a number or from it on, those open under the corners, the others.
+pub enum Keep {
+    All,
+    Below(usize),
+    From(usize),
+    Open,
+    Shut,
+}
+
+// Whose lists are asked for: a value's, of times, or a key's, of values.
+pub enum Level {
+    Values,
+    Keys,
+}
+
+// Writes a layer's items that have a list left, and after them the ends of those lists: the count of what stays up to each.
+fn write_nodes(
+    level: Level,
+    keep: Keep,
+    times: &[u64],
+    corners: &[u64],
+    diff_ends: &[u64],
+    time_ends: &[u64],
+    items: &[u64],
+    ends: &[u64],
+    n: usize,
+    out: &mut [u64],
+)
+    requires { ⌜ (length (now «diff_ends») ≤ length (now times)) × (ordered (now corners) ≡ true) ⌝ }
+    requires { ⌜ (length (now items) ≡ length (now ends)) × (risesFrom 0 (now ends) ≡ true) ⌝ }
+    requires { ⌜ (n ≡ length (nodes (below level (timeKept keep (now times) (now corners) (now «diff_ends»)) (now «time_ends»)) itemOf 0 0 (now items) (now ends))) × (length (now out) ≡ n + n) ⌝ }
+    ensures { λ _. ⌜ now (out .exit) ≡ nodesOut (below level (timeKept keep (now (times .entry)) (now (corners .entry)) (now («diff_ends» .entry))) (now («time_ends» .entry))) (now (items .entry)) (now (ends .entry)) ⌝ }
+{
+    let mut start = 0;
+    let mut total = 0;
+    let mut at = 0;
+    let mut i = 0;
+    while i < items.len() {
+        let end = ends[i] as usize;
+        let left = count_below(
+            level,
+            keep,
+            times,
+            corners,
+            diff_ends,
+            time_ends,
+            start,
+            end,
+        );
+        if 0 < left {
+            total += left;
+            out[at] = items[i];
+            out[n + at] = total as u64;
+            at += 1;
+        }
+        start = end;
+        i += 1;
+    }
+}
+
+// Writes the times that stay, after them the ends of their lists, and after these their diffs, one each.
+fn write_leaves(
+    keep: Keep,
+    times: &[u64],
+    corners: &[u64],
+    diff_ends: &[u64],
+    diffs: &[u64],
+    n: usize,
+    out: &mut [u64],
+)
+    requires { ⌜ (length (now «diff_ends») ≡ length (now times)) × (ordered (now corners) ≡ true) ⌝ }
+    requires { ⌜ EndsWithin (now «diff_ends») (length (now diffs)) ⌝ }
+    requires { ⌜ (n ≡ countKept (timeKept keep (now times) (now corners) (now «diff_ends»)) 0 (length (now times))) × (length (now out) ≡ n + (n + n)) ⌝ }
+    ensures { λ _. ⌜ now (out .exit) ≡ leavesOut (timeKept keep (now (times .entry)) (now (corners .entry)) (now («diff_ends» .entry))) (now (times .entry)) (now («diff_ends» .entry)) (now (diffs .entry)) ⌝ }
+{
+    let mut at = 0;
+    let mut i = 0;
+    while i < times.len() {
+        let list = chunk::child_range(diff_ends, i);
+        let lower = list.lower;
+        if time_kept(keep, times, corners, diff_ends, i) {
+            out[at] = times[i];
+            out[n + at] = at as u64 + 1;
+            out[n + n + at] = diffs[lower];
+            at += 1;
+        }
+        i += 1;
+    }
+}
+
+// Writes the table of these counts, and each layer into its own part.
+fn write_bodies(
+    keep: Keep,
+    corners: &[u64],
+    keys: &[u64],
+    val_ends: &[u64],
+    vals: &[u64],
+    time_ends: &[u64],
+    times: &[u64],
+    diff_ends: &[u64],
+    diffs: &[u64],
+    nk: usize,
+    nv: usize,
+    nt: usize,
+    out: &mut [u64],
+)
+    requires { ⌜ ordered (now corners) ≡ true ⌝ }
+    requires { ⌜ Bodies (now keys) (now «val_ends») (now vals) (now «time_ends») (now times) (now «diff_ends») (now diffs) ⌝ }
+    requires { ⌜ Left (timeKept keep (now times) (now corners) (now «diff_ends»)) (now keys) (now «val_ends») (now vals) (now «time_ends») (now times) nk nv nt (length (now out)) ⌝ }
+    ensures { λ _. ⌜ now (out .exit) ≡ over (layersOut (timeKept keep (now (times .entry)) (now (corners .entry)) (now («diff_ends» .entry))) (now (keys .entry)) (now («val_ends» .entry)) (now (vals .entry)) (now («time_ends» .entry)) (now (times .entry)) (now («diff_ends» .entry)) (now (diffs .entry)) nk nv nt) (now (out .entry)) ⌝ }
+{
+    let to = chunk::layout(nk, nv, nt, nt);
+    let keys_at = to.keys_at;
+    let vals_at = to.vals_at;
+    let times_at = to.times_at;
+    let end = to.size;
+    chunk::write_table(out, nk, nv, nt, nt);
+    write_nodes(
+        Level::Keys,
+        keep,
+        times,
+        corners,
+        diff_ends,
+        time_ends,
+        keys,
+        val_ends,
+        nk,
+        &mut out[keys_at..vals_at],
+    );
+    write_nodes(
+        Level::Values,
+        keep,
+        times,
+        corners,
+        diff_ends,
+        time_ends,
+        vals,
+        time_ends,
+        nv,
+        &mut out[vals_at..times_at],
+    );
+    write_leaves(
+        keep,
+        times,
+        corners,
+        diff_ends,
+        diffs,
+        nt,
+        &mut out[times_at..end],
+    );
+}
+
+// Writes the chunk of the entries that stay: the items that pass, and above them the lists that are not left empty, layer by layer.
+fn retain_items(words: &[u64], found: Contents, keep: Keep, corners: &[u64], out: &mut [u64])
+    requires { ⌜ (wellFormed (now words) ≡ true) × Placed found (now words) ⌝ }
+    requires { ⌜ (ordered (now corners) ≡ true) × (size (now words) ≤ length (now out)) ⌝ }
+    ensures { λ _. ⌜ now (out .exit) ≡ over (chunkOf (retainedOf keep (now (corners .entry)) (now (words .entry)))) (now (out .entry)) ⌝ }
+{
+    let keys_at = found.keys_at;
+    let val_ends_at = found.val_ends_at;
+    let vals_at = found.vals_at;
+    let time_ends_at = found.time_ends_at;
+    let times_at = found.times_at;
+    let diff_ends_at = found.diff_ends_at;
+    let diffs_at = found.diffs_at;
+    let size = found.size;
+    let keys = &words[keys_at..val_ends_at];
+    let val_ends = &words[val_ends_at..vals_at];
+    let vals = &words[vals_at..time_ends_at];
+    let time_ends = &words[time_ends_at..times_at];
+    let times = &words[times_at..diff_ends_at];
+    let diff_ends = &words[diff_ends_at..diffs_at];
+    let diffs = &words[diffs_at..size];
+    let nk = count_keys(
+        keep,
+        times,
+        corners,
+        diff_ends,
+        time_ends,
+        val_ends,
+        0,
+        keys.len(),
+    );
+    let nv = count_values(keep, times, corners, diff_ends, time_ends, 0, vals.len());
+    let nt = count_times(keep, times, corners, diff_ends, 0, times.len());
+    write_bodies(
+        keep,
+        corners,
+        keys,
+        val_ends,
+        vals,
+        time_ends,
+        times,
+        diff_ends,
+        diffs,
+        nk,
+        nv,
+        nt,
+        out,
+    );
+}
+
+// Filter: times without a diff go, then values and keys left without children. 5 where the chunk isn't well formed, 13 where `out` is short.
+pub fn filter_zero(words: &[u64], out: &mut [u64]) -> u64
+    ensures { λ r. ⌜ (r ≡ filterNumber (now (words .entry)) (now (out .entry))) × (now (out .exit) ≡ filterOut (now (words .entry)) (now (out .entry))) ⌝ }
+{
+    let checked = chunk::check(words);
+    let number = checked.number;
+    if number != 0 {
+        return 5;
+    }
+    let found = checked.contents;
+    let size = found.size;
+    if out.len() < size {
+        return 13;
+    }
+    retain_items(words, found, Keep::All, &words[0..0], out);
+    0
+}
+
+// Split: the first n records, and the rest, one output each. 5 where the chunk isn't well formed, 6 where it isn't settled, 13 where an output is short.
+pub fn split_at(words: &[u64], n: u64, first: &mut [u64], rest: &mut [u64]) -> u64
+    ensures { λ r. ⌜ Split r (now (first .exit)) (now (rest .exit)) (now (words .entry)) n (now (first .entry)) (now (rest .entry)) ⌝ }
+{
+    let checked = chunk::check(words);
+    let number = checked.number;
+    if number != 0 {
+        return 5;
+    }
+    let settled = checked.settled;
+    if !settled {
+        return 6;
+    }
+    let found = checked.contents;
+    let size = found.size;
+    if first.len() < size {
+        return 13;
+    }
+    if rest.len() < size {
+        return 13;
+    }
+    let at = n as usize;
+    retain_items(words, found, Keep::Below(at), &words[0..0], first);
+    retain_items(words, found, Keep::From(at), &words[0..0], rest);
+    0
+}
+
+// A frontier: its corners, ignitions rising and ticks falling, in the first `count` places.
+pub struct Frontier {
+    pub count: u64,
+    pub corners: [u64; 128],
+}
+
+impl Frontier {
+    // The most corners that a frontier holds.
+    pub const MOST: usize = 128;
+
+    // The empty frontier, with which nothing is open.
+    pub fn new() -> Frontier
+        ensures { λ r. ⌜ r ≡ emptyFrontier ⌝ }
+    {
+        Frontier {
+            count: 0,
+            corners: [0; 128],
+        }
+    }
+}
+
+// What one look over the times finds.
+pub struct Least {
+    pub found: bool,
+    pub time: u64,
+}
+
+// Of the open times with a tick below `limit`, the one least in number.
+fn least_open(times: &[u64], corners: &[u64], limit: u64) -> Least
+    requires { ⌜ ordered (now corners) ≡ true ⌝ }
+    ensures { λ r. ⌜ r ≡ leastFrom (now (corners .entry)) limit (now (times .entry)) false 0 ⌝ }
+{
+    let mut found = false;
+    let mut best = 0;
+    let mut i = 0;
+    while i < times.len() {
+        let time = times[i];
+        if better(corners, limit, found, best, time) {
+            found = true;
+            best = time;
+        }
+        i += 1;
+    }
+    Least { found, time: best }
+}
+
+// Whether an open time with a tick below `limit` is less than the best so far.
+fn better(corners: &[u64], limit: u64, found: bool, best: u64, time: u64) -> bool
+    requires { ⌜ ordered (now corners) ≡ true ⌝ }
+    ensures { λ r. ⌜ r ≡ betterThan (now (corners .entry)) limit found best time ⌝ }
+{
+    if limit <= time % 0x1_0000_0000 {
+        return false;
+    }
+    if !found {
+        return is_open(corners, time);
+    }
+    if best <= time {
+        return false;
+    }
+    is_open(corners, time)
+}
+
+// The corners of the open times, where they are at most as many as a frontier holds.
+pub struct Corners {
+    pub fits: bool,
+    pub frontier: Frontier,
+}
+
+// The frontier of the open times: the least of them, then the least of those with a lower tick, and so on.
+fn kept_corners(times: &[u64], upper: &[u64]) -> Corners
+    requires { ⌜ ordered (now upper) ≡ true ⌝ }
+    ensures { λ r. ⌜ r ≡ cornersOf (leastOf (keep (isOpen (now (upper .entry))) (now (times .entry)))) ⌝ }
+{
+    let mut corners = [0; 128];
+    let mut count = 0;
+    let mut limit = 0x1_0000_0000;
+    while count < Frontier::MOST {
+        let least = least_open(times, upper, limit);
+        let found = least.found;
+        let time = least.time;
+        if !found {
+            return Corners {
+                fits: true,
+                frontier: Frontier {
+                    count: count as u64,
+                    corners,
+                },
+            };
+        }
+        corners[count] = time;
+        count += 1;
+        limit = time % 0x1_0000_0000;
+    }
+    let over = least_open(times, upper, limit);
+    let more = over.found;
+    if more {
+        return Corners {
+            fits: false,
+            frontier: Frontier::new(),
+        };
+    }
+    Corners {
+        fits: true,
+        frontier: Frontier {
+            count: count as u64,
+            corners,
+        },
+    }
+}
+
+// Whether corners stand in order: ignitions rising strictly and ticks falling strictly.
+fn in_order(corners: &[u64]) -> bool
+    ensures { λ r. ⌜ r ≡ ordered (now (corners .entry)) ⌝ }
+{
+    if corners.len() == 0 {
+        return true;
+    }
+    let mut last = corners[0];
+    let mut i = 1;
+    while i < corners.len() {
+        let next = corners[i];
+        if next / 0x1_0000_0000 <= last / 0x1_0000_0000 {
+            return false;
+        }
+        if last % 0x1_0000_0000 <= next % 0x1_0000_0000 {
+            return false;
+        }
+        last = next;
+        i += 1;
+    }
+    true
+}
+
+// Whether a frontier has at most as many corners as it may, in order. The places past them are ignored.
+fn is_sound(upper: Frontier) -> bool
+    ensures { λ r. ⌜ r ≡ sound (upper .count) (upper .corners) ⌝ }
+{
+    let count = upper.count as usize;
+    if Frontier::MOST < count {
+        return false;
+    }
+    let corners = upper.corners;
+    in_order(&corners[0..count])
+}
+
+// What became of the records: all kept (of an empty chunk too), all shipped, or some of each.
+pub enum Verdict {
+    AllKept,
+    AllShipped,
+    Mixed,
+}
+
+// What `extract` answers: 0 with the verdict and the frontier of the kept times, or a refusal with all else zero.
+pub struct Extracted {
+    pub number: u64,
+    pub verdict: Verdict,
+    pub frontier: Frontier,
+}
+
+// The verdict, by the counts of kept times and of all.
+fn verdict_of(kept: usize, all: usize) -> Verdict
+    ensures { λ r. ⌜ r ≡ verdictBy kept all ⌝ }
+{
+    if kept == all {
+        return Verdict::AllKept;
+    }
+    if kept == 0 {
+        return Verdict::AllShipped;
+    }
+    Verdict::Mixed
+}
+
+// A refusal by its number.
+fn refused(number: u64) -> Extracted
+    ensures { λ r. ⌜ r ≡ refusedBy number ⌝ }
+{
+    Extracted {
+        number,
+        verdict: Verdict::AllKept,
+        frontier: Frontier::new(),
+    }
+}
+
+// Extract from a settled chunk that the outputs hold: 10 where the kept times have too many corners.
+fn extract_open(
+    words: &[u64],
+    found: Contents,
+    corners: &[u64],
+    kept: &mut [u64],
+    shipped: &mut [u64],
+) -> Extracted
+    requires { ⌜ (wellFormed (now words) ≡ true) × (Placed found (now words) × (settled (now words) ≡ true)) ⌝ }
+    requires { ⌜ (ordered (now corners) ≡ true) × ((size (now words) ≤ length (now kept)) × (size (now words) ≤ length (now shipped))) ⌝ }
+    ensures { λ r. ⌜ Parted r (now (kept .exit)) (now (shipped .exit)) (now (corners .entry)) (entries (now (words .entry))) (now (kept .entry)) (now (shipped .entry)) ⌝ }
+{
+    let times_at = found.times_at;
+    let diff_ends_at = found.diff_ends_at;
+    let diffs_at = found.diffs_at;
+    let times = &words[times_at..diff_ends_at];
+    let diff_ends = &words[diff_ends_at..diffs_at];
+    let least = kept_corners(times, corners);
+    let fits = least.fits;
+    if !fits {
+        return refused(10);
+    }
+    let frontier = least.frontier;
+    let open = count_times(Keep::Open, times, corners, diff_ends, 0, times.len());
+    let verdict = verdict_of(open, times.len());
+    retain_items(words, found, Keep::Open, corners, kept);
+    retain_items(words, found, Keep::Shut, corners, shipped);
+    Extracted {
+        number: 0,
+        verdict,
+        frontier,
+    }
+}
+
+// Extract: open records are kept, the others shipped. 9 for a frontier that is too long or out of order, 5 and 6 for a chunk that isn't well formed
+// or settled, 13 where an output is short, 10 where the kept times have too many corners.
+pub fn extract(words: &[u64], upper: Frontier, kept: &mut [u64], shipped: &mut [u64]) -> Extracted
+    ensures { λ r. ⌜ Extraction r (now (kept .exit)) (now (shipped .exit)) (upper .count) (upper .corners) (now (words .entry)) (now (kept .entry)) (now (shipped .entry)) ⌝ }
+{
+    if !is_sound(upper) {
+        return refused(9);
+    }
+    let checked = chunk::check(words);
+    let number = checked.number;
+    if number != 0 {
+        return refused(5);
+    }
+    let settled = checked.settled;
+    if !settled {
+        return refused(6);
+    }
+    let found = checked.contents;
+    let size = found.size;
+    if kept.len() < size {
+        return refused(13);
+    }
+    if shipped.len() < size {
+        return refused(13);
+    }
+    let count = upper.count as usize;
+    let corners = upper.corners;
+    extract_open(words, found, &corners[0..count], kept, shipped)
+}

@@ -1,0 +1,5 @@
+pub mod Copy
+pub mod Meld
+pub mod Seam
+pub mod Laid
+pub mod Accepted

@@ -1,0 +1,23 @@
+-- Laws of this crate's proofs that belong to no one function.
+pub mod Walked
+pub mod Merged
+pub mod Galloping
+pub mod Placing
+pub mod Stepping
+pub mod Along
+pub mod Cutting
+pub mod Moving
+pub mod Sounding
+pub mod Suffixing
+pub mod Refusing
+pub mod Examples
+pub mod Running
+pub mod Surveying
+pub mod Covering
+pub mod Layering
+pub mod WriteRuns
+pub mod WriteEnds
+pub mod WriteDiffs
+pub mod WriteUnder
+pub mod WriteEntries
+pub mod WriteDiffEnds

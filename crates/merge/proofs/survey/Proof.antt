@@ -1,0 +1,129 @@
+use Prim.Native.Nat.{ℕ, _≤_, _<_, _+_, _*_, _-_}
+use mathlib.Core.Path.{_≡_, refl, sym, _∙_, ap}
+use native.Mathlib.Omega.{arith}
+use borrow.Author.Needs.{needs}
+use lib.ListN.{length, getD}
+use denote.Ref.{now}
+use Rattle.merge.proofs.Surveying.{Surveying, surveying-none, surveying-length, one-room, surveying-more, surveying-all}
+use Rattle.merge.proofs.survey.Statement.{statement}
+use Rattle.merge.proofs.survey.Tie as tie
+use Rattle.merge.proofs.survey.Reads as reads
+use Rattle.merge.proofs.survey.Lts as lts
+use Rattle.merge.proofs.survey_one.Reads as survey-one-reads
+
+abbrev Inv-loop : tie.InvT-loop
+Inv-loop ends0 items0 ends1 items1 scratch₀ from count start at₀ i₀ n₀ scratch at i n = Surveying ends0 items0 ends1 items1 scratch₀ from count start scratch at i n
+
+abbrev μ-loop : tie.MeasureT-loop
+μ-loop ends0 items0 ends1 items1 scratch₀ from count start at₀ i₀ n₀ scratch at i n = count - n
+
+loop-holds : tie.Need-loop-holds Inv-loop μ-loop
+loop-holds c = surveying-none _ _ _ _ _ _ _ _ (c .before .before .before .before .before .pre)
+
+mul-kind : tie.Need-mul-kind Inv-loop μ-loop
+mul-kind c =
+    let g = (c .before .loop .inv) in
+    let y = (c .before .before .before .before .before .before .before .pre) in
+    let k : length (c .before .loop .scratch) ≡ length (now (c .before .before .before .before .before .before .before .args .scratch)) = surveying-length _ _ _ _ _ _ _ _ y _ _ _ _ g in
+    omega (arith, g .here, g .reached, y .before, y .room, k)
+
+slice-read-kind : tie.Need-slice-read-kind Inv-loop μ-loop
+slice-read-kind c =
+    let g = (c .before .before .loop .inv) in
+    let y = (c .before .before .before .before .before .before .before .before .pre) in
+    let k : length (c .before .before .loop .scratch) ≡ length (now (c .before .before .before .before .before .before .before .before .args .scratch)) = surveying-length _ _ _ _ _ _ _ _ y _ _ _ _ g in
+    omega (arith, g .here, g .reached, y .before, y .room, k)
+
+add-low : tie.Need-add-low Inv-loop μ-loop
+add-low c =
+    let g = (c .before .before .loop .inv) in
+    let y = (c .before .before .before .before .before .before .before .before .pre) in
+    let k : length (c .before .before .loop .scratch) ≡ length (now (c .before .before .before .before .before .before .before .before .args .scratch)) = surveying-length _ _ _ _ _ _ _ _ y _ _ _ _ g in
+    omega (arith, g .here, g .reached, y .before, y .room, k)
+
+mul-low : tie.Need-mul-low Inv-loop μ-loop
+mul-low c =
+    let g = (c .before .before .loop .inv) in
+    let y = (c .before .before .before .before .before .before .before .before .pre) in
+    let k : length (c .before .before .loop .scratch) ≡ length (now (c .before .before .before .before .before .before .before .before .args .scratch)) = surveying-length _ _ _ _ _ _ _ _ y _ _ _ _ g in
+    omega (arith, g .here, g .reached, y .before, y .room, k)
+
+slice-read-low : tie.Need-slice-read-low Inv-loop μ-loop
+slice-read-low c =
+    let g = (c .before .before .before .loop .inv) in
+    let y = (c .before .before .before .before .before .before .before .before .before .pre) in
+    let k : length (c .before .before .before .loop .scratch) ≡ length (now (c .before .before .before .before .before .before .before .before .before .args .scratch)) = surveying-length _ _ _ _ _ _ _ _ y _ _ _ _ g in
+    omega (arith, g .here, g .reached, y .before, y .room, k)
+
+add-high : tie.Need-add-high Inv-loop μ-loop
+add-high c =
+    let g = (c .before .before .before .loop .inv) in
+    let y = (c .before .before .before .before .before .before .before .before .before .pre) in
+    let k : length (c .before .before .before .loop .scratch) ≡ length (now (c .before .before .before .before .before .before .before .before .before .args .scratch)) = surveying-length _ _ _ _ _ _ _ _ y _ _ _ _ g in
+    omega (arith, g .here, g .reached, y .before, y .room, k)
+
+mul-high : tie.Need-mul-high Inv-loop μ-loop
+mul-high c =
+    let g = (c .before .before .before .loop .inv) in
+    let y = (c .before .before .before .before .before .before .before .before .before .pre) in
+    let k : length (c .before .before .before .loop .scratch) ≡ length (now (c .before .before .before .before .before .before .before .before .before .args .scratch)) = surveying-length _ _ _ _ _ _ _ _ y _ _ _ _ g in
+    omega (arith, g .here, g .reached, y .before, y .room, k)
+
+slice-read-high : tie.Need-slice-read-high Inv-loop μ-loop
+slice-read-high c =
+    let g = (c .before .before .before .before .loop .inv) in
+    let y = (c .before .before .before .before .before .before .before .before .before .before .pre) in
+    let k : length (c .before .before .before .before .loop .scratch) ≡ length (now (c .before .before .before .before .before .before .before .before .before .before .args .scratch)) = surveying-length _ _ _ _ _ _ _ _ y _ _ _ _ g in
+    omega (arith, g .here, g .reached, y .before, y .room, k)
+
+survey-one-requires : tie.Need-survey-one-requires Inv-loop μ-loop
+survey-one-requires c κs = one-room _ _ _ _ _ _ _ _ (c .before .before .before .before .before .before .before .before .before .before .before .pre) _ _ _ _ (c .before .before .before .before .before .loop .inv) (search needs)
+
+add-i : tie.Need-add-i Inv-loop μ-loop
+add-i c =
+    let g = (c .before .before .before .before .before .before .before .before .loop .inv) in
+    let y = (c .before .before .before .before .before .before .before .before .before .before .before .before .before .before .pre) in
+    let k : length (c .before .before .before .before .before .before .before .before .loop .scratch) ≡ length (now (c .before .before .before .before .before .before .before .before .before .before .before .before .before .before .args .scratch)) = surveying-length _ _ _ _ _ _ _ _ y _ _ _ _ g in
+    omega (arith, g .here, g .reached, y .before, y .room, k)
+
+add-n : tie.Need-add-n Inv-loop μ-loop
+add-n c =
+    let g = (c .before .before .before .before .before .before .before .before .loop .inv) in
+    let y = (c .before .before .before .before .before .before .before .before .before .before .before .before .before .before .pre) in
+    let k : length (c .before .before .before .before .before .before .before .before .loop .scratch) ≡ length (now (c .before .before .before .before .before .before .before .before .before .before .before .before .before .before .args .scratch)) = surveying-length _ _ _ _ _ _ _ _ y _ _ _ _ g in
+    omega (arith, g .here, g .reached, y .before, y .room, k)
+
+loop-less : tie.Need-loop-less Inv-loop μ-loop
+loop-less c = omega arith
+
+loop-again : tie.Need-loop-again Inv-loop μ-loop
+loop-again c = surveying-more _ _ _ _ _ _ _ _ (c .before .before .before .before .before .before .before .before .before .before .before .before .before .before .pre) _ _ _ _ (c .before .before .before .before .before .before .before .before .loop .inv) (search needs) _ _ (c .before .before .survey-one .ensures .0) (c .before .before .survey-one .ensures .1)
+
+same-length : tie.Need-same-length Inv-loop μ-loop
+same-length c = surveying-length _ _ _ _ _ _ _ _ (c .before .before .before .before .before .before .before .pre) _ _ _ _ (c .before .loop .inv)
+
+returns : tie.Need-returns Inv-loop μ-loop
+returns c = surveying-all _ _ _ _ _ _ _ _ (c .before .before .before .before .before .before .before .pre) _ _ _ _ (c .before .loop .inv) (search needs)
+
+pub survey-spec : {M : Type 1} → statement M
+survey-spec =
+    tie.close
+    (tie.spec
+    Inv-loop
+    μ-loop
+    loop-holds
+    mul-kind
+    slice-read-kind
+    add-low
+    mul-low
+    slice-read-low
+    add-high
+    mul-high
+    slice-read-high
+    survey-one-requires
+    add-i
+    add-n
+    loop-less
+    loop-again
+    same-length
+    returns)

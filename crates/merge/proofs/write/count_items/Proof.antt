@@ -1,0 +1,65 @@
+-- `merge::write::count_items` meets its contract: with the items of the reports that are left the count is whole.
+use native.Mathlib.Omega.{arith}
+use Prim.Native.Nat.{_+_}
+use mathlib.Core.Path.{refl}
+use Rattle.merge.specs.Scratch.{reportsAt}
+use Rattle.merge.specs.Write.{widths}
+use Rattle.merge.proofs.WriteEnds.{Tallying, next-rising, next-small, next-tally, no-more-tally}
+use Rattle.merge.proofs.write.count_items.Statement.{statement}
+use Rattle.merge.proofs.write.count_items.Tie as tie
+use Rattle.merge.proofs.write.count_items.Reads as reads
+use Rattle.merge.proofs.write.count_items.Lts as lts
+use Rattle.merge.proofs.write.width_of.Reads as width-of-reads
+
+abbrev Inv-loop : tie.InvT-loop
+Inv-loop scratch from count base total₀ left₀ p₀ total left p = Tallying scratch (base + widths (reportsAt scratch from count)) p left total
+
+abbrev μ-loop : tie.MeasureT-loop
+μ-loop scratch from count base total₀ left₀ p₀ total left p = left
+
+-- src/write.rt:99:5
+loop-holds : tie.Need-loop-holds Inv-loop μ-loop
+loop-holds c = record { counting = c .before .pre; whole = refl }
+
+-- src/write.rt:100:18
+width-of-requires : tie.Need-width-of-requires Inv-loop μ-loop
+width-of-requires c κs = let l = c .before .loop in next-rising (c .before .before .before .args .scratch .now) _ (l .p) (l .left) (l .total) (c .loop-test .taken) (l .inv)
+
+-- src/write.rt:100:9
+add-total : tie.Need-add-total Inv-loop μ-loop
+add-total c = let l = c .before .before .loop in let m = next-small (c .before .before .before .before .args .scratch .now) _ (l .p) (l .left) (l .total) (c .before .loop-test .taken) (l .inv) in omega (arith, c .width-of .ensures)
+
+-- src/write.rt:101:9
+add-p : tie.Need-add-p Inv-loop μ-loop
+add-p c = omega (arith, c .before .before .loop .inv .counting .stands, c .before .loop-test .taken)
+
+-- src/write.rt:102:9
+sub-left : tie.Need-sub-left Inv-loop μ-loop
+sub-left c = omega (arith, c .before .loop-test .taken)
+
+-- src/write.rt:99:5
+loop-less : tie.Need-loop-less Inv-loop μ-loop
+loop-less c = omega (arith, c .before .loop-test .taken)
+
+-- src/write.rt:99:5
+loop-again : tie.Need-loop-again Inv-loop μ-loop
+loop-again c = let l = c .before .before .loop in next-tally (c .before .before .before .before .args .scratch .now) _ (l .p) (l .left) (l .total) (c .before .loop-test .taken) (l .inv) (c .width-of .ensures)
+
+-- src/write.rt:92:1
+returns : tie.Need-returns Inv-loop μ-loop
+returns c = let l = c .before .loop in no-more-tally (c .before .before .before .args .scratch .now) _ (l .p) (l .left) (l .total) (omega (arith, c .loop-test .left)) (l .inv)
+
+pub count-items-spec : {M : Type 1} → statement M
+count-items-spec =
+    tie.close
+    (tie.spec
+    Inv-loop
+    μ-loop
+    loop-holds
+    width-of-requires
+    add-total
+    add-p
+    sub-left
+    loop-less
+    loop-again
+    returns)

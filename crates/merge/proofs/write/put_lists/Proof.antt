@@ -1,0 +1,57 @@
+-- `merge::write::put_lists` meets its contract.
+use native.Mathlib.Omega.{arith}
+use Rattle.merge.proofs.WriteEnds.{one-more, lists-long}
+use borrow.Author.Needs.{needs}
+use Rattle.merge.proofs.write.put_lists.Statement.{statement}
+use Rattle.merge.proofs.write.put_lists.Tie as tie
+use Rattle.merge.proofs.write.put_lists.Reads as reads
+use Rattle.merge.proofs.write.put_lists.Lts as lts
+use Rattle.merge.proofs.write.put_ends.Reads as put-ends-reads
+
+-- src/write.rt:161:16
+sub-last : tie.Need-sub-last
+sub-last c = search needs
+
+-- src/write.rt:162:5
+put-ends-requires : tie.Need-put-ends-requires
+put-ends-requires c κs = search needs
+
+-- src/write.rt:163:15
+sub-out : tie.Need-sub-out
+sub-out c = search needs
+
+-- src/write.rt:163:9
+add-out : tie.Need-add-out
+add-out c = search needs
+
+-- src/write.rt:163:5
+mul-out : tie.Need-mul-out
+mul-out c = search needs
+
+-- src/write.rt:163:5
+slice-write-out : tie.Need-slice-write-out
+slice-write-out c = search needs
+
+-- src/write.rt:156:1
+same-length : tie.Need-same-length
+same-length c = search needs
+
+-- src/write.rt:156:1
+returns : tie.Need-returns
+returns c =
+    let t = c .before .before .before .before .before .before in
+    let v = t .args in
+    one-more (v .at) _ (v .next) _ (v .out .now) _ (lists-long (v .by) (v .low) (v .high) (v .ends .now) (t .pre .0 .ordered) (t .pre .0 .within)) (omega (arith, t .pre .0 .fits, t .pre .1)) (c .before .before .put-ends .ensures)
+
+pub put-lists-spec : {M : Type 1} → statement M
+put-lists-spec =
+    tie.close
+    (tie.spec
+    sub-last
+    put-ends-requires
+    sub-out
+    add-out
+    mul-out
+    slice-write-out
+    same-length
+    returns)

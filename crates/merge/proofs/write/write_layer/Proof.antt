@@ -1,0 +1,29 @@
+-- `merge::write::write_layer` meets its contract: the ends, and then the items.
+use mathlib.Core.Path.{_∙_}
+use borrow.Author.Needs.{needs}
+use Rattle.merge.proofs.write.write_layer.Statement.{statement}
+use Rattle.merge.proofs.write.write_layer.Tie as tie
+use Rattle.merge.proofs.write.write_layer.Reads as reads
+use Rattle.merge.proofs.write.write_layer.Lts as lts
+use Rattle.merge.proofs.write.write_ends.Reads as write-ends-reads
+use Rattle.merge.proofs.write.write_items.Reads as write-items-reads
+
+-- src/write.rt:377:5
+write-ends-requires : tie.Need-write-ends-requires
+write-ends-requires c κs = search needs
+
+-- src/write.rt:378:5
+write-items-requires : tie.Need-write-items-requires
+write-items-requires c κs = search needs
+
+-- src/write.rt:359:1
+same-length : tie.Need-same-length
+same-length c = search needs
+
+-- src/write.rt:359:1
+returns : tie.Need-returns
+returns c = c .before .before .write-items .ensures ∙ rw (c .before .before .before .before .before .before .write-ends .ensures)
+
+pub write-layer-spec : {M : Type 1} → statement M
+write-layer-spec =
+    tie.close (tie.spec write-ends-requires write-items-requires same-length returns)

@@ -1,0 +1,10 @@
+pub mod Merge
+pub mod Survey
+pub mod Theorems
+pub mod Gallop
+pub mod Scratch
+pub mod Suffix
+pub mod Examples
+pub mod Run
+pub mod Layers
+pub mod Write

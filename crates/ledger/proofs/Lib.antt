@@ -1,0 +1,14 @@
+pub mod Whole
+pub mod Lists
+pub mod Clean
+pub mod Held
+pub mod Sorting
+pub mod Fitting
+pub mod Rows
+pub mod Ordered
+pub mod Tests
+pub mod Refusals
+pub mod Settles
+pub mod Steps
+pub mod Ledger
+pub mod Yard

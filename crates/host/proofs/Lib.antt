@@ -1,0 +1,3 @@
+-- Laws of this crate's proofs that belong to no one function.
+pub mod Laid
+pub mod Stepping

@@ -1,0 +1,180 @@
+ghost use mathlib.Core.Path.{_≡_};
+ghost use Prim.Native.Nat.{_≤_};
+ghost use lib.ListN.{length};
+ghost use Rattle.chunk.specs.Words.{over};
+ghost use Rattle.form.specs.Form.{FormAnswers, UnsortedAnswers};
+ghost use Rattle.meld.specs.Meld.{Melded};
+ghost use Rattle.retain.specs.Cut.{filterNumber, filterOut, Split};
+ghost use Rattle.merge.specs.Merge.{suffixNumber, suffixOut};
+ghost use Rattle.host.specs.Answers.{checkNumber, checkAnswer, walkerWords, startNumber, startAnswer, Answers};
+ghost use Rattle.host.specs.Steps.{walkerIn, recordWords, StepAnswers};
+
+// The words of a check's answer, of a walker and of a record.
+const CHECK_WORDS: usize = 5;
+
+const WALKER_WORDS: usize = 7;
+
+const RECORD_WORDS: usize = 4;
+
+// What a step returns where no record is left.
+const DONE: u64 = 100;
+
+// The check of a chunk; its answer is settled (0 or 1), nk, nv, nt, nd.
+#[no_mangle]
+pub extern "C" fn rl_check(words: &[u64], answer: &mut [u64]) -> u64
+    ensures { λ r. ⌜ Answers (checkNumber (now (words .entry)) (now (answer .entry))) (checkAnswer (now (words .entry)) (now (answer .entry))) r (now (answer .exit)) ⌝ }
+{
+    if answer.len() < CHECK_WORDS {
+        return 13;
+    }
+    let found = chunk::check(words);
+    let number = found.number;
+    if number != 0 {
+        return number;
+    }
+    let contents = found.contents;
+    let settled = found.settled;
+    answer[0] = settled as u64;
+    answer[1] = contents.nk as u64;
+    answer[2] = contents.nv as u64;
+    answer[3] = contents.nt as u64;
+    answer[4] = contents.nd as u64;
+    0
+}
+
+// The settled chunk of updates that never fall.
+#[no_mangle]
+pub extern "C" fn rl_form(updates: &[u64], out: &mut [u64]) -> u64
+    ensures { λ r. ⌜ FormAnswers (now (updates .entry)) (now (out .entry)) r (now (out .exit)) ⌝ }
+{
+    form::form(updates, out)
+}
+
+// The settled chunk of updates in any order, which are left sorted.
+#[no_mangle]
+pub extern "C" fn rl_form_unsorted(updates: &mut [u64], out: &mut [u64]) -> u64
+    ensures { λ r. ⌜ UnsortedAnswers (now (updates .entry)) (now (out .entry)) r (now (updates .exit)) (now (out .exit)) ⌝ }
+{
+    form::form_unsorted(updates, out)
+}
+
+// Chunk `b` behind chunk `a`.
+#[no_mangle]
+pub extern "C" fn rl_meld(a: &[u64], b: &[u64], out: &mut [u64]) -> u64
+    ensures { λ r. ⌜ Melded (now (a .entry)) (now (b .entry)) (now (out .entry)) r (now (out .exit)) ⌝ }
+{
+    meld::meld(a, b, out)
+}
+
+// The chunk without the times that have no diff.
+#[no_mangle]
+pub extern "C" fn rl_filter_zero(words: &[u64], out: &mut [u64]) -> u64
+    ensures { λ r. ⌜ (r ≡ filterNumber (now (words .entry)) (now (out .entry))) × (now (out .exit) ≡ filterOut (now (words .entry)) (now (out .entry))) ⌝ }
+{
+    retain::filter_zero(words, out)
+}
+
+// The first n records, and the rest.
+#[no_mangle]
+pub extern "C" fn rl_split_at(words: &[u64], n: u64, first: &mut [u64], rest: &mut [u64]) -> u64
+    ensures { λ r. ⌜ Split r (now (first .exit)) (now (rest .exit)) (now (words .entry)) n (now (first .entry)) (now (rest .entry)) ⌝ }
+{
+    retain::split_at(words, n, first, rest)
+}
+
+// The chunk of the records from the time at index t on, whose key and value are at k and v.
+#[no_mangle]
+pub extern "C" fn rl_suffix_chunk(k: u64, v: u64, t: u64, words: &[u64], out: &mut [u64]) -> u64
+    ensures { λ r. ⌜ r ≡ suffixNumber (record { k = k; v = v; t = t }) (now (words .entry)) (now (out .entry)) ⌝ }
+    ensures { λ _. ⌜ now (out .exit) ≡ suffixOut (record { k = k; v = v; t = t }) (now (words .entry)) (now (out .entry)) ⌝ }
+{
+    let cursor = merge::Cursor {
+        k: k as usize,
+        v: v as usize,
+        t: t as usize,
+    };
+    merge::suffix_chunk(cursor, words, out)
+}
+
+// A walker's words at the front of a slice.
+fn write_walker(out: &mut [u64], w: walk::Walker)
+    requires { ⌜ 7 ≤ length (now out) ⌝ }
+    ensures { λ _. ⌜ now (out .exit) ≡ over (walkerWords w) (now (out .entry)) ⌝ }
+{
+    out[0] = w.k;
+    out[1] = w.v;
+    out[2] = w.t;
+    out[3] = w.d;
+    out[4] = w.v_end;
+    out[5] = w.t_end;
+    out[6] = w.d_end;
+}
+
+// A record's words at the front of a slice.
+fn write_record(out: &mut [u64], found: walk::Record)
+    requires { ⌜ 4 ≤ length (now out) ⌝ }
+    ensures { λ _. ⌜ now (out .exit) ≡ over (recordWords found) (now (out .entry)) ⌝ }
+{
+    out[0] = found.key;
+    out[1] = found.val;
+    out[2] = found.time;
+    out[3] = found.diff;
+}
+
+// The walker that seven words say.
+fn read_walker(words: &[u64]) -> walk::Walker
+    requires { ⌜ 7 ≤ length (now words) ⌝ }
+    ensures { λ r. ⌜ r ≡ walkerIn (now (words .entry)) ⌝ }
+{
+    walk::Walker {
+        k: words[0],
+        v: words[1],
+        t: words[2],
+        d: words[3],
+        v_end: words[4],
+        t_end: words[5],
+        d_end: words[6],
+    }
+}
+
+// Where a walk starts: the walker's seven words.
+#[no_mangle]
+pub extern "C" fn rl_walk_start(words: &[u64], walker: &mut [u64]) -> u64
+    ensures { λ r. ⌜ Answers (startNumber (now (words .entry)) (now (walker .entry))) (startAnswer (now (words .entry)) (now (walker .entry))) r (now (walker .exit)) ⌝ }
+{
+    if walker.len() < WALKER_WORDS {
+        return 13;
+    }
+    let found = walk::walk_start(words);
+    let number = found.number;
+    if number != 0 {
+        return number;
+    }
+    let start = found.walker;
+    write_walker(walker, start);
+    0
+}
+
+// One step of a walk: the walker's words go past the next record, whose words are given; or DONE, or 5, and nothing changes.
+#[no_mangle]
+pub extern "C" fn rl_walk_step(words: &[u64], walker: &mut [u64], found: &mut [u64]) -> u64
+    ensures { λ r. ⌜ StepAnswers (now (words .entry)) (now (walker .entry)) (now (found .entry)) r (now (walker .exit)) (now (found .exit)) ⌝ }
+{
+    if walker.len() < WALKER_WORDS {
+        return 13;
+    }
+    if found.len() < RECORD_WORDS {
+        return 13;
+    }
+    let at = read_walker(walker);
+    let went = walk::walk_step(words, at);
+    match went {
+        walk::Stepped::Gave(record, past) => {
+            write_walker(walker, past);
+            write_record(found, record);
+            0
+        }
+        walk::Stepped::Done => DONE,
+        walk::Stepped::Refused => 5,
+    }
+}

@@ -1,0 +1,83 @@
+/* Rafterloop for C: the calls of target/staticlib/libhost.a, which `rt staticlib host` writes (x86-64, System V calling convention).
+ *
+ * Every slice is a pointer to 64-bit words and a count of words. The slices of one call must not overlap: no word of one may be a
+ * word of another. A pointer is never null, and is aligned to 8 bytes, even where the count is 0.
+ *
+ * Each call returns 0 where it is accepted, and otherwise the number of its refusal. A refused call changes no lent word. Where it is
+ * accepted, words past the chunk or the answer that it writes are unchanged.
+ *
+ *   1  the update words are not four each          7  the chunk is empty
+ *   2  more than RL_LIMIT updates or times         8  the cursor is not a time with its own value and key
+ *   3  updates out of order                       11  the second chunk is not past the first
+ *   4  a diff outside -2^40 to 2^40               13  an output or an answer is short
+ *   5  not a well formed chunk
+ *   6  well formed, not settled: a time has no diff
+ *
+ * A chunk is the front of a slice: the counts nk, nv, nt, nd; then nk keys, nk value ends, nv values, nv time ends, nt times,
+ * nt diff ends, nd diffs. Its size is 4 + 2 nk + 2 nv + 2 nt + nd. A time word is ignition * 2^32 + tick. A diff is signed.
+ */
+#ifndef RAFTERLOOP_H
+#define RAFTERLOOP_H
+#include <stddef.h>
+#include <stdint.h>
+
+#ifdef __cplusplus
+extern "C" {
+#endif
+
+/* The most updates of a form, and the most times of a chunk. */
+#define RL_LIMIT 1048576
+
+/* What rl_walk_step returns where no record is left. No refusal has this number. */
+#define RL_DONE 100
+
+/* The words of an answer. */
+#define RL_CHECK_WORDS 5
+#define RL_WALKER_WORDS 7
+#define RL_RECORD_WORDS 4
+
+/* Whether `words` is a well formed chunk.
+ * Answer, 5 words: settled (0 or 1), nk, nv, nt, nd. Refusals in order: 13 the answer has fewer than 5 words; 5. */
+uint64_t rl_check(const uint64_t *words, size_t words_len, uint64_t *answer, size_t answer_len);
+
+/* The settled chunk of updates (key, value, time, diff; four words each) that never fall in key, value, time. Equal positions are
+ * added, and zero sums dropped.
+ * Room: out 4 + 7 * updates. Refusals in order: 1, 2, 3, 4, 13. */
+uint64_t rl_form(const uint64_t *updates, size_t updates_len, uint64_t *out, size_t out_len);
+
+/* The same of updates in any order, which are left sorted by key, value, time, then signed diff.
+ * Room: out 4 + 7 * updates. Refusals in order: 1, 2, 4, 13. */
+uint64_t rl_form_unsorted(uint64_t *updates, size_t updates_len, uint64_t *out, size_t out_len);
+
+/* Chunk b behind chunk a, where the first position of b is past the last of a; where one is empty, the other.
+ * Room: out size a + size b - 4. Refusals in order: 5, 6 for a; 5, 6 for b; 2, 11, 13. */
+uint64_t rl_meld(const uint64_t *a, size_t a_len, const uint64_t *b, size_t b_len, uint64_t *out, size_t out_len);
+
+/* The chunk without the times that have no diff, and without the values and keys that this leaves empty.
+ * Room: out the size of the chunk. Refusals in order: 5, 13. */
+uint64_t rl_filter_zero(const uint64_t *words, size_t words_len, uint64_t *out, size_t out_len);
+
+/* The chunk of the first n records, and the chunk of the rest.
+ * Room: each output the size of the chunk. Refusals in order: 5, 6, 13. */
+uint64_t rl_split_at(const uint64_t *words, size_t words_len, uint64_t n, uint64_t *first, size_t first_len, uint64_t *rest,
+                     size_t rest_len);
+
+/* The chunk of the records from the time at index t on; k and v are the indices of its key and its value.
+ * Room: out the size of the chunk. Refusals in order: 5, 6, 7, 8, 13. */
+uint64_t rl_suffix_chunk(uint64_t k, uint64_t v, uint64_t t, const uint64_t *words, size_t words_len, uint64_t *out, size_t out_len);
+
+/* Where a walk over a chunk starts.
+ * Answer, 7 words: k, v, t, d, v_end, t_end, d_end. Refusals in order: 13 the walker has fewer than 7 words; 5. */
+uint64_t rl_walk_start(const uint64_t *words, size_t words_len, uint64_t *walker, size_t walker_len);
+
+/* The next record of a walk; the walker goes past it in place.
+ * Answer, 4 words: key, value, time, diff. Returns 0 with a record; RL_DONE where none is left, and the walker and the record stay as
+ * they were. Refusals in order: 13 the walker has fewer than 7 words, or the record fewer than 4; 5 the table doesn't fit the slice, or
+ * a place that must be read is past its body. */
+uint64_t rl_walk_step(const uint64_t *words, size_t words_len, uint64_t *walker, size_t walker_len, uint64_t *record,
+                      size_t record_len);
+
+#ifdef __cplusplus
+}
+#endif
+#endif

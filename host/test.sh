@@ -1,0 +1,90 @@
+#!/bin/sh
+# Runs build/rafterloop on good and bad logs and compares status and words. Run from the top of the repository, after `make`.
+# RUN names an emulator where the machine isn't x86-64. Natively, every run is under valgrind where it is installed.
+set -u
+program=build/rafterloop
+dir=$(mktemp -d)
+trap 'rm -rf "$dir"' EXIT
+run=${RUN:-}
+if [ -z "$run" ] && command -v valgrind > /dev/null; then
+    run="valgrind -q --error-exitcode=99 --leak-check=full"
+fi
+tests=0
+failed=0
+
+# expect STATUS WORDS COMMAND..: the status, and words (a basic regular expression) that the output or the errors must have
+expect() {
+    status=$1
+    words=$2
+    shift 2
+    $run "$program" "$@" > "$dir/out" 2>&1
+    got=$?
+    tests=$((tests + 1))
+    if [ "$got" != "$status" ] || ! tr -s ' ' < "$dir/out" | grep -q "$words"; then
+        failed=$((failed + 1))
+        echo "FAILED: rafterloop $*: status $got, not $status, or no '$words' in:"
+        head -5 "$dir/out"
+    fi
+}
+
+# bad LINE WORDS: a log whose second line is bad
+bad() {
+    printf '1 1 1 1 1\n%s\n' "$1" > "$dir/bad.log"
+    expect 1 "bad.log:2: $2" fold "$dir/bad.log"
+    expect 1 "bad.log:2: $2" check "$dir/bad.log"
+}
+
+expect 2 usage
+expect 2 usage fold
+expect 2 usage mend samples/cold-morning.log
+expect 1 'missing.log' fold "$dir/missing.log"
+
+# the cold morning: yesterday's low air stands before today's clear; the plug that was taken back is gone
+expect 0 '^ 12 3 41 90210 +1$' fold samples/cold-morning.log
+expect 0 '^ 12 3 42 7 -1$' fold samples/cold-morning.log
+expect 0 '7 updates, 2 trucks, 3 records' check samples/cold-morning.log
+$run "$program" fold samples/cold-morning.log | tr -s ' ' > "$dir/out"
+printf ' truck fault ignition tick change\n 9 8 42 30 +1\n 12 3 41 90210 +1\n 12 3 42 7 -1\n' > "$dir/want"
+tests=$((tests + 1))
+cmp "$dir/out" "$dir/want" || failed=$((failed + 1))
+
+: > "$dir/empty.log"
+expect 0 'truck' fold "$dir/empty.log"
+expect 0 '0 updates, 0 trucks, 0 records' check "$dir/empty.log"
+printf '# only a comment\n\n  \t\n5 6 7 8 9 # and a number\n' > "$dir/comment.log"
+expect 0 '^ 5 6 7 8 +9$' fold "$dir/comment.log"
+printf '5 6 7 8 -9' > "$dir/minus.log"
+expect 0 '^ 5 6 7 8 -9$' fold "$dir/minus.log"
+expect 0 '^ truck' fold "$dir/comment.log" "$dir/minus.log"
+if grep -q 5 "$dir/out"; then failed=$((failed + 1)); echo "FAILED: two logs that cancel"; fi
+printf '18446744073709551615 18446744073709551615 4294967295 4294967295 1099511627776\r\n' > "$dir/most.log"
+expect 0 '^ *18446744073709551615 18446744073709551615 4294967295 4294967295 +1099511627776$' fold "$dir/most.log"
+printf '1 1 1 1 1099511627777\n' > "$dir/over.log"
+expect 1 'over.log: refused, 4: ' fold "$dir/over.log"
+expect 1 'over.log: refused, 4: ' check "$dir/over.log" samples/cold-morning.log
+
+bad '1 2 3 4' 'change is missing'
+bad '1 2 3' 'tick is missing'
+bad 'x 2 3 4 5' 'truck is not a whole number'
+bad '1 2.5 3 4 5' 'fault is not a whole number'
+bad '1 -2 3 4 5' 'fault is not a whole number'
+bad '1 2 4294967296 4 5' 'ignition is too large'
+bad '1 2 3 4294967296 5' 'tick is too large'
+bad '18446744073709551616 2 3 4 5' 'truck is too large'
+bad '1 2 3 4 9223372036854775808' 'change is too large'
+bad '1 2 3 4 --5' 'change is not a whole number'
+bad '1 2 3 4 5 6' 'line has more than'
+printf '1 1 1 1 1\0\n' > "$dir/zero.log"
+expect 1 'zero.log:1: line has a zero byte' fold "$dir/zero.log"
+
+# the library's own limit: 1048576 updates are taken, one more is refused with 2
+awk 'BEGIN { for (i = 0; i < 1048576; i++) print i % 1000, 1, 1, 1, 1 }' > "$dir/limit.log"
+expect 0 '1048576 updates, 1000 trucks, 1000 records' check "$dir/limit.log"
+echo '1 1 1 1 1' >> "$dir/limit.log"
+expect 1 'limit.log: refused, 2: ' check "$dir/limit.log"
+# a change out of range, as the last of a million
+awk 'BEGIN { for (i = 0; i < 999999; i++) print i % 1000, 1, 1, 1, 1; print "1 1 1 1 1099511627777" }' > "$dir/last.log"
+expect 1 'last.log: refused, 4: ' check "$dir/last.log"
+
+echo "host/test.sh: $tests runs, $failed failed"
+[ "$failed" = 0 ]

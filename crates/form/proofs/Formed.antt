@@ -19,7 +19,7 @@ use Rattle.laws.proofs.Order.{Same, Compared, less, equal, more, compared, same
 use Rattle.laws.specs.OneChunk.{fits}
 use Rattle.sort.proofs.Perms.{Words, sort-perm}
 use Rattle.form.specs.Form.{consolidated, formed, falls, inRange}
-use Rattle.form.proofs.Wrap.{plus-word}
+use Rattle.laws.proofs.Wrap.{plus-word}
 use Rattle.form.specs.Theorems.{FormedRises, FormedStands, FormedLength, FormedTotal, FormedFits, FormPermuted}
 
 -- ---- tests of a disjunction

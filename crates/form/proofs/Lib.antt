@@ -12,4 +12,3 @@ pub mod Step
 pub mod Underway
 pub mod Unsorted
 pub mod Whole
-pub mod Wrap

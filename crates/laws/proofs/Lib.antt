@@ -11,3 +11,4 @@ pub mod Grown
 pub mod Frame
 pub mod Totals
 pub mod OneChunk
+pub mod Wrap

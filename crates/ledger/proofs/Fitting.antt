@@ -10,7 +10,7 @@ use Rattle.form.specs.Form.{consolidated, formed}
 use Rattle.merge.specs.Merge.{insertAdd, union, merged}
 use Rattle.laws.specs.OneChunk.{isWord, fits}
 use Rattle.laws.proofs.Tests.{by-test, and-left, and-right, and-both}
-use Rattle.form.proofs.Wrap.{plus-word}
+use Rattle.laws.proofs.Wrap.{plus-word}
 use Rattle.retain.proofs.Records.{keep-every}
 
 -- a sum's word is a machine word

@@ -1,19 +1,18 @@
--- A list of entries from an index on: its ends, its lasts and where the index stands are those of the whole, from one list on.
-use Prim.Native.Nat.{ℕ, zero, suc, _+_, _-_, _<_, _≤_}
+-- Where an entry stands: the list that an index is in, by the ends and by the lasts up to it.
+use Prim.Native.Nat.{ℕ, zero, suc, _+_, _<_, _≤_}
 use mathlib.Core.Path.{_≡_, refl, sym, _∙_, ap}
-use mathlib.Core.Bool.{Bool, true, false, cond, _&&_}
-use mathlib.Core.List.{List, [], _∷_, _++_, map}
+use mathlib.Core.Bool.{Bool, true}
+use mathlib.Core.List.{List, [], _∷_, map}
 use native.Mathlib.Omega.{arith}
-use native.Mathlib.Nat.{zero-add, add-suc, suc-add, add-zero}
 use lib.Dec.{ltb, eqb}
-use lib.ListN.{length, take, drop, length-map}
+use lib.ListN.{length, take, length-map}
 use borrow.Author.Tests.{lt-ltb, le-ltb, eqb-true}
 use Rattle.laws.proofs.Tests.{by-test, and-left}
-use Rattle.laws.proofs.Lists.{map-drop}
 use Rattle.chunk.specs.Entry.{Entry, sameList}
 use Rattle.chunk.specs.Bodies.{lastsOf, endsOf, sameKey, keys, vals, valEnds, timeEnds}
 use Rattle.merge.specs.Survey.{below}
-use Rattle.merge.specs.Merge.{Place, placeAt}
+use Rattle.merge.specs.Merge.{placeAt}
+use Rattle.merge.proofs.Bodies.{lasts-lasts}
 
 module _ (same : Entry → Entry → Bool) where
   -- every end is past where the count stood
@@ -32,19 +31,6 @@ module _ (same : Entry → Entry → Bool) where
           (λ h. rw h (none (suc m) d es (omega arith)))
           (λ h. rw h (rw (le-ltb (suc m) (n + 1) (omega arith)) refl))
 
-  -- counted from further on, each end is as much more
-  ends-shift : (m n : ℕ) (es : List Entry) → endsOf same m es ≡ map (λ (e : ℕ). e - n) (endsOf same (n + m) es)
-  unfolding endsOf
-  ends-shift m n [] = refl
-  ends-shift m n (a ∷ []) = ap (λ (x : ℕ). x ∷ []) (omega arith)
-  ends-shift m n (a ∷ b ∷ es) =
-      let ih : endsOf same (suc m) (b ∷ es) ≡ map (λ (e : ℕ). e - n) (endsOf same (n + suc m) (b ∷ es)) = ends-shift (suc m) n (b ∷ es) in
-      let jh : endsOf same (suc m) (b ∷ es) ≡ map (λ (e : ℕ). e - n) (endsOf same (suc (n + m)) (b ∷ es)) = rw (add-suc n m) at ih in
-      let f : suc m ≡ suc (n + m) - n = omega arith in
-      by-test (same a b)
-      (λ h. rw h jh)
-      (λ h. rw h (λ i. f i ∷ jh i))
-
   -- the list that an index stands in
   abbrev pub listOf : ℕ → ℕ → List Entry → ℕ
   listOf n t es = below (n + suc t) (endsOf same n es)
@@ -52,8 +38,6 @@ module _ (same : Entry → Entry → Bool) where
   pub record FromList (n t : ℕ) (es : List Entry) : Type 0 where
     pub index : length (lastsOf same (take (suc t) es)) ≡ suc (listOf n t es)
     pub within : listOf n t es < length (lastsOf same es)
-    pub ends : endsOf same 0 (drop t es) ≡ map (λ (e : ℕ). e - (n + t)) (drop (listOf n t es) (endsOf same n es))
-    pub lasts : lastsOf same (drop t es) ≡ drop (listOf n t es) (lastsOf same es)
 
   some-lasts : (a : Entry) (es : List Entry) → 0 < length (lastsOf same (a ∷ es))
   unfolding lastsOf
@@ -65,34 +49,17 @@ module _ (same : Entry → Entry → Bool) where
   from-list n t [] h = absurd (omega arith)
   from-list n zero (a ∷ es) h =
       let z : below (n + 1) (endsOf same n (a ∷ es)) ≡ 0 = ends-past n a es in
-      let s : n + 0 ≡ n = add-zero n in
-      record {
-        index = rw z;
-        within = rw z (some-lasts a es);
-        ends = rw (z, s) (ends-shift 0 n (a ∷ es) ∙ ap (λ (m : ℕ). map (λ (e : ℕ). e - n) (endsOf same m (a ∷ es))) s);
-        lasts = rw z;
-      }
+      record { index = rw z; within = rw z (some-lasts a es) }
   from-list n (suc t) (a ∷ []) h = absurd (omega arith)
   from-list n (suc t) (a ∷ b ∷ es) h = step (from-list (suc n) t (b ∷ es) (omega arith))
     where
       step : FromList (suc n) t (b ∷ es) → FromList n (suc t) (a ∷ b ∷ es)
       step f =
           let e : n + suc (suc t) ≡ suc n + suc t = omega arith in
-          let g : n + suc t ≡ suc n + t = omega arith in
           by-test (same a b)
-          (λ p. record {
-            index = rw (p, e) (f .index);
-            within = rw (p, e) (f .within);
-            ends = rw (p, e, g) (f .ends);
-            lasts = rw (p, e) (f .lasts);
-          })
+          (λ p. record { index = rw (p, e) (f .index); within = rw (p, e) (f .within) })
           (λ p. let u : ltb (suc n) (suc n + suc t) ≡ true = lt-ltb (suc n) (suc n + suc t) (omega arith) in
-          record {
-            index = rw (p, e, u) (ap suc (f .index));
-            within = rw (p, e, u) (omega (arith, f .within));
-            ends = rw (p, e, g, u) (f .ends);
-            lasts = rw (p, e, u) (f .lasts);
-          })
+          record { index = rw (p, e, u) (ap suc (f .index)); within = rw (p, e, u) (omega (arith, f .within)) })
 
   -- the lasts up to an index, and those lists of the whole, say the same of what is alike within a list
   pub lasts-alike {ℓ} : {A : Type ℓ} (f : Entry → A) → ((a b : Entry) → same a b ≡ true → f a ≡ f b) → (n t : ℕ) (es : List Entry) → t < length es
@@ -134,43 +101,14 @@ count-keys (x ∷ a ∷ xs) (y ∷ b ∷ ys) h =
     let s : sameKey x a ≡ sameKey y b = rw (p, q) in
     by-test (sameKey y b) (λ u. rw (s, u) ih) (λ u. rw (s, u) (ap suc ih))
 
--- the first last has its list's key
-head-key : (b : Entry) (es : List Entry) → (c : Entry) × (rest : List Entry) × (lastsOf sameList (b ∷ es) ≡ c ∷ rest) × (c .key ≡ b .key)
-unfolding lastsOf
-head-key b [] = (b, [], refl, refl)
-head-key b (d ∷ es) =
-    let r = head-key d es in
-    by-test (sameList b d)
-    (λ h. (r .0, r .1, rw h (r .2), r .3 ∙ sym (same-key b d h)))
-    (λ h. (b, lastsOf sameList (d ∷ es), rw h refl, refl))
-
--- the last entry of a key is the last of its last value
-lasts-lasts : (es : List Entry) → lastsOf sameKey (lastsOf sameList es) ≡ lastsOf sameKey es
-unfolding lastsOf
-lasts-lasts [] = refl
-lasts-lasts (a ∷ []) = refl
-lasts-lasts (a ∷ b ∷ es) =
-    let ih : lastsOf sameKey (lastsOf sameList (b ∷ es)) ≡ lastsOf sameKey (b ∷ es) = lasts-lasts (b ∷ es) in
-    by-test (sameList a b)
-    (λ h. rw (h, and-left (eqb (a .key) (b .key)) _ h) ih)
-    (λ h. let r = head-key b es in
-    let two : lastsOf sameKey (a ∷ r .0 ∷ r .1) ≡ cond (sameKey a (r .0)) (lastsOf sameKey (r .0 ∷ r .1)) (a ∷ lastsOf sameKey (r .0 ∷ r .1)) = refl in
-    rw h (ap (λ (l : List Entry). lastsOf sameKey (a ∷ l)) (r .2) ∙ two
-    ∙ ap (λ (k : ℕ). cond (eqb (a .key) k) (lastsOf sameKey (r .0 ∷ r .1)) (a ∷ lastsOf sameKey (r .0 ∷ r .1))) (r .3)
-    ∙ ap (λ (l : List Entry). cond (sameKey a b) l (a ∷ l)) (ap (lastsOf sameKey) (sym (r .2)) ∙ ih)))
-
 -- ---- from an entry on
 
--- the place of an entry, and the bodies of the entries from it on
+-- the place of an entry: its value's list has it, and its key's list that value
 pub record FromPlace (es : List Entry) (k v t : ℕ) : Type 0 where
   pub v-is : below (t + 1) (timeEnds es) ≡ v
   pub k-is : below (v + 1) (valEnds es) ≡ k
   pub v-in : v < length (vals es)
   pub k-in : k < length (keys es)
-  pub keys-on : keys (drop t es) ≡ drop k (keys es)
-  pub val-ends-on : valEnds (drop t es) ≡ map (λ (e : ℕ). e - v) (drop k (valEnds es))
-  pub vals-on : vals (drop t es) ≡ drop v (vals es)
-  pub time-ends-on : timeEnds (drop t es) ≡ map (λ (e : ℕ). e - t) (drop v (timeEnds es))
 
 module _ (es : List Entry) (t : ℕ) (h : t < length es) where
   abbrev L : List Entry
@@ -205,20 +143,11 @@ module _ (es : List Entry) (t : ℕ) (h : t < length es) where
   computed =
       let z : 0 + suc t ≡ t + 1 = omega arith in
       let y : 0 + suc itsVal ≡ itsVal + 1 = omega arith in
-      let tz : 0 + t ≡ t = zero-add t in
-      let vz : 0 + itsVal ≡ itsVal = zero-add itsVal in
-      let on : lastsOf sameList (drop t es) ≡ drop itsVal L = f .lasts in
       record {
         v-is = ap (λ (n : ℕ). below n (timeEnds es)) (sym z);
         k-is = ap (λ (n : ℕ). below n (valEnds es)) (sym y);
         v-in = rw (length-map L (λ (e : Entry). e .val)) (f .within);
         k-in = rw (length-map (lastsOf sameKey es) (λ (e : Entry). e .key), ← (lasts-lasts es)) (g .within);
-        keys-on =
-            ap (map (λ (e : Entry). e .key)) (sym (lasts-lasts (drop t es)) ∙ ap (lastsOf sameKey) on ∙ g .lasts ∙ ap (drop itsKey) (lasts-lasts es))
-            ∙ map-drop (λ (e : Entry). e .key) itsKey (lastsOf sameKey es);
-        val-ends-on = ap (endsOf sameKey 0) on ∙ g .ends ∙ ap (λ (n : ℕ). map (λ (e : ℕ). e - n) (drop itsKey (valEnds es))) vz;
-        vals-on = ap (map (λ (e : Entry). e .val)) on ∙ map-drop (λ (e : Entry). e .val) itsVal L;
-        time-ends-on = f .ends ∙ ap (λ (n : ℕ). map (λ (e : ℕ). e - n) (drop itsVal (timeEnds es))) tz;
       }
 
   pub from-place : FromPlace es (placeAt es t .k) (placeAt es t .v) t

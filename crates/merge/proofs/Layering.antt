@@ -27,7 +27,7 @@ use Rattle.merge.proofs.Moving.{Reading, reading}
 use Rattle.merge.proofs.Covering.{pair-covers, survey-covers, layer-of, placed-read}
 
 -- reports are no more than the items that they name
-covers-count : (n m i j : ℕ) (rs : List Report) → i ≤ n → j ≤ m → Covers n m i j rs → length rs ≤ n - i + (m - j)
+pub covers-count : (n m i j : ℕ) (rs : List Report) → i ≤ n → j ≤ m → Covers n m i j rs → length rs ≤ n - i + (m - j)
 covers-count n m i j [] a b c = omega arith
 covers-count n m i j (this l h ∷ rs) a b c = omega (arith, covers-count n m h j rs (c .2) b (c .3), c .0, c .1, c .2)
 covers-count n m i j (that l h ∷ rs) a b c = omega (arith, covers-count n m i h rs a (c .2) (c .3), c .0, c .1, c .2)

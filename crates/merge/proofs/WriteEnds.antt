@@ -209,7 +209,7 @@ module _ (a b s : List ℕ) (p q base next at by : ℕ) (out : List ℕ) {out′
 
 -- ---- one turn over the lists
 
-length-reports : (s : List ℕ) (p n : ℕ) → length (reportsAt s p n) ≡ n
+pub length-reports : (s : List ℕ) (p n : ℕ) → length (reportsAt s p n) ≡ n
 unfolding reportsAt
 length-reports s p zero = refl
 length-reports s p (suc n) = ap suc (length-reports s (p + 3) n)

@@ -58,8 +58,8 @@ stops-at low0 high0 low1 high1 end0 end1 (this x y ∷ g) rest f n h k = rw (le-
 stops-at low0 high0 low1 high1 end0 end1 (that x y ∷ g) rest f n h k = rw (le-ltb x end1 (omega (arith, n .0)))
 stops-at low0 high0 low1 high1 end0 end1 (both i j ∷ g) rest f n h k = rw (le-ltb i end0 (omega (arith, n .0)))
 
-module _ (a x b y : List ℕ) (top0 top1 : ℕ) (rise0 : endsRise 0 a top0 ≡ true) (rise1 : endsRise 0 b top1 ≡ true) where
-  stops : (i j : ℕ) (ls is : List Report) → Inside (suc i) (length a) (suc j) (length b) ls → Under a x b y ls is
+module _ (a b : List ℕ) (top0 top1 : ℕ) (rise0 : endsRise 0 a top0 ≡ true) (rise1 : endsRise 0 b top1 ≡ true) where
+  stops : (i j : ℕ) (ls is : List Report) → Inside (suc i) (length a) (suc j) (length b) ls → Under a b ls is
       → insideFrom (getD a i 0) (getD b j 0) is ≡ []
   unfolding insideFrom
   stops i j [] is n ended = refl
@@ -74,7 +74,7 @@ module _ (a x b y : List ℕ) (top0 top1 : ℕ) (rise0 : endsRise 0 a top0 ≡ t
       (starts-past b top1 j m rise1 (omega (arith, n .2)) (omega (arith, n .3)))
 
   -- what lies under a shared list is what is found for it
-  pub group-found : (i j : ℕ) (ls rest js g : List Report) → Inside (suc i) (length a) (suc j) (length b) ls → Shared a x b y i j g → js ≡ g ++ rest → Under a x b y ls rest
+  pub group-found : (i j : ℕ) (ls rest js g : List Report) → Inside (suc i) (length a) (suc j) (length b) ls → Shared a b i j g → js ≡ g ++ rest → Under a b ls rest
       → groupSize a b (both i j) js ≡ length g
   unfolding groupSize
   group-found i j ls rest js g n s e u =
@@ -82,7 +82,7 @@ module _ (a x b y : List ℕ) (top0 top1 : ℕ) (rise0 : endsRise 0 a top0 ≡ t
       ∙ ap length (inside-all (startOf a i) (getD a i 0) (startOf b j) (getD b j 0) g rest (s .inside) (stops i j ls rest n u))
 
   -- reports of lists in order, with reports of items under them, are found
-  pub found : (low0 low1 : ℕ) (ls is : List Report) → Inside low0 (length a) low1 (length b) ls → Under a x b y ls is → Found a b ls is
+  pub found : (low0 low1 : ℕ) (ls is : List Report) → Inside low0 (length a) low1 (length b) ls → Under a b ls is → Found a b ls is
   unfolding groupSize
   found low0 low1 [] is n ended = record {}
   found low0 low1 (this l h ∷ ls) is n (first r u) =
@@ -119,7 +119,7 @@ some-append : (g rest : List Report) → AllSome g → AllSome rest → AllSome 
 some-append [] rest v w = w
 some-append (r ∷ g) rest v w = (v .0, some-append g rest (v .1) w)
 
-inside-serves : (low0 high0 low1 high1 n m : ℕ) (g : List Report) → Inside low0 high0 low1 high1 g → high0 ≤ n → high1 ≤ m → AllServe n m g
+pub inside-serves : (low0 high0 low1 high1 n m : ℕ) (g : List Report) → Inside low0 high0 low1 high1 g → high0 ≤ n → high1 ≤ m → AllServe n m g
 inside-serves low0 high0 low1 high1 n m [] v h k = record {}
 inside-serves low0 high0 low1 high1 n m (this x y ∷ g) v h k =
     ((omega (arith, v .1), omega (arith, v .2)), inside-serves y high0 low1 high1 n m g (v .3) h k)
@@ -128,15 +128,15 @@ inside-serves low0 high0 low1 high1 n m (that x y ∷ g) v h k =
 inside-serves low0 high0 low1 high1 n m (both i j ∷ g) v h k =
     ((omega (arith, v .1), omega (arith, v .3)), inside-serves (suc i) high0 (suc j) high1 n m g (v .4) h k)
 
-inside-some : (low0 high0 low1 high1 : ℕ) (g : List Report) → Inside low0 high0 low1 high1 g → AllSome g
+pub inside-some : (low0 high0 low1 high1 : ℕ) (g : List Report) → Inside low0 high0 low1 high1 g → AllSome g
 inside-some low0 high0 low1 high1 [] v = record {}
 inside-some low0 high0 low1 high1 (this x y ∷ g) v = (omega (arith, v .1), inside-some y high0 low1 high1 g (v .3))
 inside-some low0 high0 low1 high1 (that x y ∷ g) v = (omega (arith, v .1), inside-some low0 high0 y high1 g (v .3))
 inside-some low0 high0 low1 high1 (both i j ∷ g) v = (omega arith, inside-some (suc i) high0 (suc j) high1 g (v .4))
 
-module _ (a x b y : List ℕ) (top0 top1 : ℕ) (rise0 : endsRise 0 a top0 ≡ true) (rise1 : endsRise 0 b top1 ≡ true) where
+module _ (a b : List ℕ) (top0 top1 : ℕ) (rise0 : endsRise 0 a top0 ≡ true) (rise1 : endsRise 0 b top1 ≡ true) where
   -- their ranges are there
-  pub under-serves : (ls is : List Report) → Under a x b y ls is → AllServe top0 top1 is
+  pub under-serves : (ls is : List Report) → Under a b ls is → AllServe top0 top1 is
   under-serves [] is ended = record {}
   under-serves (this l h ∷ ls) is (first {is = rest} r u) =
       ((omega (arith, r .full), omega (arith, r .to, last-reach 0 a top0 (h - 1) rise0 (omega (arith, r .some, r .there)))), under-serves ls rest u)
@@ -148,7 +148,7 @@ module _ (a x b y : List ℕ) (top0 top1 : ℕ) (rise0 : endsRise 0 a top0 ≡ t
       (under-serves ls rest u))
 
   -- and none is empty
-  pub under-some : (ls is : List Report) → Under a x b y ls is → AllSome is
+  pub under-some : (ls is : List Report) → Under a b ls is → AllSome is
   under-some [] is ended = record {}
   under-some (this l h ∷ ls) is (first {is = rest} r u) = (omega (arith, r .full), under-some ls rest u)
   under-some (that l h ∷ ls) is (second {is = rest} r u) = (omega (arith, r .full), under-some ls rest u)

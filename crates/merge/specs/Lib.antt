@@ -8,3 +8,10 @@ pub mod Examples
 pub mod Run
 pub mod Layers
 pub mod Write
+pub mod Tail
+pub mod Woven
+pub mod Orders
+pub mod Layered
+pub mod Weft
+pub mod Outcome
+pub mod Mergeable

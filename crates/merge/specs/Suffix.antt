@@ -1,23 +1,18 @@
 -- Suffix (document 01): "The settled chunk of records from index t on"; the cursor as the caller hands it over, and the parts that the call is made of.
-use Prim.Native.Nat.{ℕ, _+_, _-_, _<_, _≤_}
-use mathlib.Core.Bool.{Bool, true, false}
+use Prim.Native.Nat.{ℕ, _≤_}
+use mathlib.Core.Bool.{true}
 use mathlib.Core.Path.{_≡_}
-use mathlib.Core.List.{List, _++_, map}
+use mathlib.Core.List.{List}
 use lib.ListN.{length}
 use Rattle.chunk.specs.Words.{wellFormed, settled, entries, size, nk, nv, nt, nd}
 use Rattle.chunk.specs.Contents.{layoutOf}
 use Rattle.chunk.specs.declared.Contents.{Contents}
 use Rattle.merge.specs.declared.Cursor.{Cursor}
 use Rattle.merge.specs.Merge.{Place, soundAt}
-use Rattle.merge.specs.Gallop.{between}
 
 -- a cursor as a place
 abbrev pub placeOf : Cursor → Place
 placeOf c = record { k = c .k; v = c .v; t = c .t }
-
--- each word less by so much
-unfoldable pub lowered : ℕ → List ℕ → List ℕ
-lowered less l = map (λ (e : ℕ). e - less) l
 
 -- a range of words that is there
 pub record Within (src : List ℕ) (from to : ℕ) : Type 0 where
@@ -35,16 +30,3 @@ pub record Ready (w : List ℕ) (c : Contents) (p : Cursor) (out : List ℕ) : T
   pub settles : settled w ≡ true
   pub sound : soundAt (entries w) (placeOf p) ≡ true
   pub room : size w ≤ length out
-
--- a layer's words from a list and an item on: ends counted from the item, then the items
-unfoldable pub layerFrom : List ℕ → ℕ → ℕ → ℕ → ℕ → ℕ → List ℕ
-unfolding lowered
-layerFrom w endsAt itemsAt itemsTo list item =
-    lowered item (between (endsAt + list) itemsAt w) ++ lowered 0 (between (itemsAt + item) itemsTo w)
-
--- the ranges of such a layer are there, and so is the room for them
-pub record LayerFrom (w : List ℕ) (endsAt itemsAt itemsTo list item : ℕ) (out : List ℕ) (at : ℕ) : Type 0 where
-  pub lists : endsAt + list ≤ itemsAt
-  pub items : itemsAt + item ≤ itemsTo
-  pub within : itemsTo ≤ length w
-  pub room : at + (itemsAt - (endsAt + list) + (itemsTo - (itemsAt + item))) ≤ length out

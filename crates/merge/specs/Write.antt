@@ -7,7 +7,7 @@ use mathlib.Core.List.{List, [], _∷_, _++_}
 use lib.Dec.{ltb}
 use lib.ListN.{length, getD, take, drop}
 use Rattle.chunk.specs.Entry.{Entry}
-use Rattle.chunk.specs.Words.{rises, limit}
+use Rattle.chunk.specs.Words.{limit}
 use Rattle.chunk.specs.Contents.{startOf}
 use Rattle.meld.specs.Copy.{shiftedAll}
 use Rattle.merge.specs.Survey.{Report, this, that, both}
@@ -60,23 +60,22 @@ Inside low0 high0 low1 high1 (that x y ∷ rs) = (low1 ≤ x) × (x < y) × (y �
 Inside low0 high0 low1 high1 (both i j ∷ rs) =
     (low0 ≤ i) × (i < high0) × (low1 ≤ j) × (j < high1) × Inside (suc i) high0 (suc j) high1 rs
 
--- some reports that name items of list i of the first and of list j of the second, which rise
-pub record Shared (ends0 items0 ends1 items1 : List ℕ) (i j : ℕ) (g : List Report) : Type 0 where
+-- some reports that name items of list i of the first and of list j of the second
+pub record Shared (ends0 ends1 : List ℕ) (i j : ℕ) (g : List Report) : Type 0 where
   pub there0 : i < length ends0
   pub there1 : j < length ends1
   pub some : 0 < length g
   pub inside : Inside (startOf ends0 i) (getD ends0 i 0) (startOf ends1 j) (getD ends1 j 0) g
-  pub rise : rises (itemsBy items0 items1 g) ≡ true
 
 -- reports of items that lie, in order, under reports of their lists
-pub data Under (ends0 items0 ends1 items1 : List ℕ) : List Report → List Report → Type 0 where
-  ended : Under ends0 items0 ends1 items1 [] []
-  first : {l h x y : ℕ} {ls is : List Report} → Run ends0 l h x y → Under ends0 items0 ends1 items1 ls is
-      → Under ends0 items0 ends1 items1 (this l h ∷ ls) (this x y ∷ is)
-  second : {l h x y : ℕ} {ls is : List Report} → Run ends1 l h x y → Under ends0 items0 ends1 items1 ls is
-      → Under ends0 items0 ends1 items1 (that l h ∷ ls) (that x y ∷ is)
-  shared : {i j : ℕ} {ls is js : List Report} (g : List Report) → Shared ends0 items0 ends1 items1 i j g
-      → js ≡ g ++ is → Under ends0 items0 ends1 items1 ls is → Under ends0 items0 ends1 items1 (both i j ∷ ls) js
+pub data Under (ends0 ends1 : List ℕ) : List Report → List Report → Type 0 where
+  ended : Under ends0 ends1 [] []
+  first : {l h x y : ℕ} {ls is : List Report} → Run ends0 l h x y → Under ends0 ends1 ls is
+      → Under ends0 ends1 (this l h ∷ ls) (this x y ∷ is)
+  second : {l h x y : ℕ} {ls is : List Report} → Run ends1 l h x y → Under ends0 ends1 ls is
+      → Under ends0 ends1 (that l h ∷ ls) (that x y ∷ is)
+  shared : {i j : ℕ} {ls is js : List Report} (g : List Report) → Shared ends0 ends1 i j g
+      → js ≡ g ++ is → Under ends0 ends1 ls is → Under ends0 ends1 (both i j ∷ ls) js
 
 -- words from one place to another, and a place of the output for them
 pub record Room (from to at words out : ℕ) : Type 0 where

@@ -7,13 +7,16 @@ ghost use Rattle.chunk.specs.Words.{entries, over};
 ghost use Rattle.chunk.specs.Bodies.{chunkOf};
 ghost use Rattle.chunk.specs.Contents.{startOf};
 ghost use Rattle.merge.specs.Merge.{soundAt, suffixNumber, suffixOut};
-ghost use Rattle.merge.specs.Suffix.{placeOf, lowered, Within, Read, Ready, LayerFrom, layerFrom};
+ghost use Rattle.merge.specs.Suffix.{placeOf, Read, Ready};
 ghost use Rattle.merge.specs.Run.{partOf, runOf};
+ghost use Rattle.merge.specs.Outcome.{MergeAnswers};
 ghost use Rattle.merge.specs.Layers.{LayersRoom, LayersSurveyed};
-ghost use Rattle.merge.specs.Gallop.{belowAt, settled, Doubled, Strode, Reached, Rises, runEnd, between};
+ghost use Rattle.merge.specs.Gallop.{belowAt, settled, Doubled, Strode, Reached, Rises, runEnd};
 ghost use Rattle.merge.specs.Survey.{this, that, both};
 ghost use Rattle.merge.specs.Scratch.{placed, wordsOf, report, reportWords, stepReport, spotAfter, PairRoom, pairOf, OneRoom, SurveyRoom, surveyOf, surveyed, reportsAt};
 
+mod pair;
+mod weft;
 mod write;
 
 // Where the doubling steps stand: at an item of the run, and the step that would have left it.
@@ -339,39 +342,26 @@ pub struct Cursor {
     pub t: usize,
 }
 
-// The one number less the other, 0 where that is more.
-fn lower_by(end: u64, less: u64) -> u64
-    ensures { λ r. ⌜ r ≡ end - less ⌝ }
-{
-    if end < less {
-        return 0;
-    }
-    end - less
+// Who survives a merge, and from which key, value and time on.
+pub enum Survivor {
+    Nobody,
+    First(usize, usize, usize),
+    Second(usize, usize, usize),
 }
 
-// Fills `part` with the words of a range, each less by `less`: items as they are, ends shifted by a constant.
-fn move_run(src: &[u64], from: usize, to: usize, less: u64, part: &mut [u64])
-    requires { ⌜ Within (now src) from to ⌝ }
-    requires { ⌜ length (now part) ≡ to - from ⌝ }
-    ensures { λ _. ⌜ now (part .exit) ≡ lowered less (between from to (now (src .entry))) ⌝ }
-{
-    let mut i = 0;
-    while i < part.len() {
-        part[i] = lower_by(src[from + i], less);
-        i += 1;
-    }
+// What a merge answers: 0 with its survivor, or a refusal.
+pub struct Joined {
+    pub number: u64,
+    pub survivor: Survivor,
 }
 
-// Writes a range into its own part of `out`, at `at`, and answers the place past it.
-fn lay(src: &[u64], from: usize, to: usize, less: u64, out: &mut [u64], at: usize) -> usize
-    requires { ⌜ Within (now src) from to ⌝ }
-    requires { ⌜ at + (to - from) ≤ length (now out) ⌝ }
-    ensures { λ r. ⌜ r ≡ at + (to - from) ⌝ }
-    ensures { λ _. ⌜ now (out .exit) ≡ placed at (lowered less (between from to (now (src .entry)))) (now (out .entry)) ⌝ }
-{
-    let end = at + (to - from);
-    move_run(src, from, to, less, &mut out[at..end]);
-    end
+// Where the reports of each layer stand in scratch: the keys' from 0 on, and how many of each there are.
+struct Spans {
+    keys: usize,
+    vals_at: usize,
+    vals: usize,
+    times_at: usize,
+    times: usize,
 }
 
 // Whether the cursor is a time index of the chunk with its own value and key.
@@ -383,66 +373,40 @@ fn sound_at(words: &[u64], found: chunk::Contents, cursor: Cursor) -> bool
     if found.nt <= t {
         return false;
     }
-    let time_ends_at = found.time_ends_at;
-    let times_at = found.times_at;
-    let v = gallop(words, time_ends_at, times_at, t as u64 + 1) - time_ends_at;
-    if v != cursor.v {
+    let place = pair::place_at(words, found, t);
+    if place.v != cursor.v {
         return false;
     }
-    let val_ends_at = found.val_ends_at;
-    let vals_at = found.vals_at;
-    let k = gallop(words, val_ends_at, vals_at, v as u64 + 1) - val_ends_at;
-    k == cursor.k
+    place.k == cursor.k
 }
 
-// Writes a layer from a list and an item on: the lists' ends, counted from that item, and then the items. Answers the place past them.
-fn write_layer_from(
-    words: &[u64],
-    ends: usize,
-    items: usize,
-    end: usize,
-    list: usize,
-    item: usize,
-    out: &mut [u64],
-    at: usize,
-) -> usize
-    requires { ⌜ LayerFrom (now words) ends items end list item (now out) at ⌝ }
-    ensures { λ r. ⌜ r ≡ at + length (layerFrom (now (words .entry)) ends items end list item) ⌝ }
-    ensures { λ _. ⌜ now (out .exit) ≡ placed at (layerFrom (now (words .entry)) ends items end list item) (now (out .entry)) ⌝ }
-{
-    let mid = lay(words, ends + list, items, item as u64, out, at);
-    lay(words, items + item, end, 0, out, mid)
-}
-
-// Writes the chunk of the entries from the cursor on: each body from its index on, the ends counted from there.
+// Writes the chunk of the entries from the cursor on: one report for each layer, of all that is left there. No report names the second input.
 fn write_suffix(words: &[u64], found: chunk::Contents, cursor: Cursor, out: &mut [u64])
     requires { ⌜ Ready (now words) found cursor (now out) ⌝ }
     ensures { λ _. ⌜ now (out .exit) ≡ over (chunkOf (drop (cursor .t) (entries (now (words .entry))))) (now (out .entry)) ⌝ }
 {
-    let k = cursor.k;
-    let v = cursor.v;
-    let t = cursor.t;
-    let keys_at = found.keys_at;
-    let val_ends_at = found.val_ends_at;
-    let vals_at = found.vals_at;
-    let time_ends_at = found.time_ends_at;
-    let times_at = found.times_at;
-    let diff_ends_at = found.diff_ends_at;
-    let diffs_at = found.diffs_at;
-    chunk::write_table(out, found.nk - k, found.nv - v, found.nt - t, found.nt - t);
-    let vals = lay(words, keys_at + k, val_ends_at, 0, out, keys_at);
-    let times = write_layer_from(words, val_ends_at, vals_at, time_ends_at, k, v, out, vals);
-    let diffs = write_layer_from(
-        words,
-        time_ends_at,
-        times_at,
-        diff_ends_at,
-        v,
-        t,
-        out,
+    let keys = cursor.k as u64;
+    let vals = cursor.v as u64;
+    let times = cursor.t as u64;
+    let reports = [
+        THIS,
+        keys,
+        found.nk as u64,
+        THIS,
+        vals,
+        found.nv as u64,
+        THIS,
         times,
-    );
-    write_layer_from(words, diff_ends_at, diffs_at, found.size, t, t, out, diffs);
+        found.nt as u64,
+    ];
+    let spans = Spans {
+        keys: 1,
+        vals_at: 3,
+        vals: 1,
+        times_at: 6,
+        times: 1,
+    };
+    weft::write_from_surveys(words, found, words, found, &reports, spans, out);
 }
 
 // The settled chunk of the records from the cursor's time on: 5, 6, 7, 8 or 13 as document 01 orders them, or 0 with `out` written.
@@ -469,6 +433,30 @@ pub fn suffix_chunk(cursor: Cursor, words: &[u64], out: &mut [u64]) -> u64
     }
     write_suffix(words, found, cursor, out);
     0
+}
+
+// Merges two settled chunks up to the smaller of their last positions: 5, 6 or 7 for the first, the same for the second, 2, 12, 13 or 14, or 0 with
+// `out` written and the survivor. Scratch is the call's own once nothing before 14 refuses.
+pub fn merge_pair(words0: &[u64], words1: &[u64], scratch: &mut [u64], out: &mut [u64]) -> Joined
+    ensures { λ r. ⌜ MergeAnswers (now (words0 .entry)) (now (words1 .entry)) (now (scratch .entry)) (now (out .entry)) r (now (out .exit)) (now (scratch .exit)) ⌝ }
+{
+    let first = chunk::check(words0);
+    let one = pair::input_refusal(first);
+    if one != 0 {
+        return pair::refused(one);
+    }
+    let second = chunk::check(words1);
+    let two = pair::input_refusal(second);
+    if two != 0 {
+        return pair::refused(two);
+    }
+    let found0 = first.contents;
+    let found1 = second.contents;
+    let both = pair::room_refusal(found0, found1, scratch.len(), out.len());
+    if both != 0 {
+        return pair::refused(both);
+    }
+    pair::merge_settled(words0, found0, words1, found1, scratch, out)
 }
 
 // The part of a body from `low` to `high`, which is excluded; the empty part where that range isn't in it.

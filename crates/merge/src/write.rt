@@ -58,7 +58,7 @@ fn write_run(
 }
 
 // Writes the items that `count` reports from `from` on name, one after another.
-fn write_items(
+pub(crate) fn write_items(
     first: &[u64],
     second: &[u64],
     scratch: &[u64],
@@ -96,7 +96,7 @@ fn width_of(scratch: &[u64], p: usize) -> usize
 }
 
 // The items so far, and those that `count` reports from `from` on name.
-fn count_items(scratch: &[u64], from: usize, count: usize, base: usize) -> usize
+pub(crate) fn count_items(scratch: &[u64], from: usize, count: usize, base: usize) -> usize
     requires { ⌜ Counting (now scratch) from count base ⌝ }
     ensures { λ r. ⌜ r ≡ base + widths (reportsAt (now (scratch .entry)) from count) ⌝ }
 {
@@ -284,7 +284,7 @@ fn write_diff(
 }
 
 // Writes the diffs that `count` reports of times from `from` on name, and answers the place past them.
-fn write_diffs(
+pub(crate) fn write_diffs(
     first: &[u64],
     second: &[u64],
     scratch: &[u64],
@@ -326,7 +326,7 @@ fn count_diff(first: &[u64], second: &[u64], scratch: &[u64], p: usize, base: us
 }
 
 // Writes an end for each time that `count` reports from `from` on name: how many diffs stand up to it.
-fn write_diff_ends(
+pub(crate) fn write_diff_ends(
     ends0: &[u64],
     ends1: &[u64],
     first: &[u64],
@@ -355,7 +355,7 @@ fn write_diff_ends(
 
 // Writes a layer: the ends of the lists that the `lists` reports from `from` on name at `edge`, and their items, which the `items`
 // reports from `first` on name, at `body`.
-fn write_layer(
+pub(crate) fn write_layer(
     ends0: &[u64],
     items0: &[u64],
     ends1: &[u64],

@@ -7,6 +7,7 @@ mod extracts;
 mod forms;
 mod ground;
 mod lent;
+mod merges;
 mod surveys;
 
 fn main() {
@@ -18,6 +19,7 @@ fn main() {
     cuts::filters();
     cuts::splits();
     extracts::extracts();
+    merges::merges();
     cuts::suffixes();
     cuts::melds();
     surveys::surveys();

@@ -2,7 +2,7 @@
 use survey::Report;
 
 // Chunk B of the document: truck 7 alone.
-fn chunk_b() -> [u64; 16] {
+pub fn chunk_b() -> [u64; 16] {
     [
         1,
         2,
@@ -46,7 +46,10 @@ fn shared(a: &[u64], b: &[u64]) {
     let first = reports[0];
     let second = reports[1];
     let third = reports[2];
-    crate::say(b"survey: A and B, two reports", answer.number == 0 && answer.count == 2);
+    crate::say(
+        b"survey: A and B, two reports",
+        answer.number == 0 && answer.count == 2,
+    );
     crate::say(b"survey: truck 7 in both", told(first, 2, 0, 0));
     crate::say(b"survey: truck 9 in A alone", told(second, 0, 1, 2));
     crate::say(b"survey: the record after the last", told(third, 0, 0, 0));
@@ -55,5 +58,8 @@ fn shared(a: &[u64], b: &[u64]) {
 fn refused(a: &[u64], empty: &[u64]) {
     let found = survey::survey_listed(a, empty);
     let answer = found.answer;
-    crate::say(b"survey: the empty chunk", answer.number == 7 && answer.count == 0);
+    crate::say(
+        b"survey: the empty chunk",
+        answer.number == 7 && answer.count == 0,
+    );
 }

@@ -5,7 +5,7 @@ use native.Mathlib.Omega.{arith}
 use borrow.Author.Needs.{needs}
 use Rattle.chunk.specs.Sums.{withDiff}
 use Rattle.form.specs.Pass.{entryOf}
-use Rattle.form.proofs.Wrap.{plus-wraps}
+use Rattle.laws.proofs.Wrap.{plus-wraps}
 use Rattle.form.proofs.join.Statement.{statement}
 use Rattle.form.proofs.join.Tie as tie
 

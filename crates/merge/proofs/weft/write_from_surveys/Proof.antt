@@ -1,0 +1,52 @@
+use mathlib.Core.Path.{_≡_, refl}
+use native.Mathlib.Omega.{arith}
+use borrow.Author.Needs.{needs}
+use Rattle.merge.proofs.Wefting.{in-room, whole-laid}
+use Rattle.merge.proofs.weft.write_from_surveys.Statement.{statement}
+use Rattle.merge.proofs.weft.write_from_surveys.Tie as tie
+use Rattle.merge.proofs.weft.write_from_surveys.Reads as reads
+use Rattle.merge.proofs.weft.write_from_surveys.Lts as lts
+use Rattle.chunk.proofs.write_table.Reads as write-table-reads
+use Rattle.merge.proofs.weft.places.Reads as places-reads
+use Rattle.merge.proofs.weft.write_lower.Reads as write-lower-reads
+use Rattle.merge.proofs.weft.write_upper.Reads as write-upper-reads
+
+-- src/pair.rt:361:9
+places-requires : tie.Need-places-requires
+places-requires c κs = search needs
+
+-- src/pair.rt:362:5
+write-upper-requires : tie.Need-write-upper-requires
+write-upper-requires c κs = search needs
+
+-- src/pair.rt:363:9
+write-lower-requires : tie.Need-write-lower-requires
+write-lower-requires c κs = (in-room _ _ (c .before .before .out .given) (c .before .before .before .before .before .before .before .before .before .before .pre), c .before .before .before .before .before .places .ensures)
+
+-- src/pair.rt:364:50
+sub-write-table : tie.Need-sub-write-table
+sub-write-table c = search needs
+
+-- src/pair.rt:364:5
+write-table-requires : tie.Need-write-table-requires
+write-table-requires c κs = search needs
+
+-- src/pair.rt:349:1
+same-length : tie.Need-same-length
+same-length c = search needs
+
+-- src/pair.rt:349:1
+returns : tie.Need-returns
+returns c = whole-laid _ _ _ _ _ _ _ (c .before .before .before .before .before .before .before .before .before .before .before .before .before .before .before .before .before .before .pre) _ (c .before .before .before .before .before .before .before .before .before .before .before .before .before .places .ensures) _ _ _ _ _ refl (c .before .before .before .before .before .before .before .before .before .before .before .write-upper .ensures) (c .before .before .before .before .before .before .before .write-lower .ensures .1) (omega (arith, c .before .before .before .before .before .before .before .write-lower .ensures .0)) (c .before .before .write-table .ensures)
+
+pub write-from-surveys-spec : {M : Type 1} → statement M
+write-from-surveys-spec =
+    tie.close
+    (tie.spec
+    places-requires
+    write-upper-requires
+    write-lower-requires
+    sub-write-table
+    write-table-requires
+    same-length
+    returns)

@@ -25,7 +25,7 @@ use Rattle.merge.specs.Scratch.{placed, reportsAt}
 use Rattle.merge.specs.Suffix.{Read, Within}
 use Rattle.merge.specs.Write.{itemsBy, entriesBy, width, widths, Serves, AllServe, AllSome, Upward, Found, Counting, RunsRoom, EndsRoom, DiffsRoom, endsBy, diffsBy, diffEndsBy, layerBy}
 use Rattle.merge.specs.Layered.{Layered, BodiesBy}
-use Rattle.merge.specs.Weft.{Weft, Whole, keyReports, valReports, timeReports, named, placesFor, upperOf, lowerOf}
+use Rattle.merge.specs.Weft.{Weft, Whole, keyReports, valReports, timeReports, named, placesFor, upperOf, middleOf, lowerOf}
 use Rattle.merge.proofs.Placing.{placed-twice, length-placed}
 use Rattle.merge.proofs.Galloping.{getD-between, length-between}
 use Rattle.merge.proofs.Moving.{Reading, reading}
@@ -84,8 +84,8 @@ front-words (suc n) (a ∷ l) h (suc i) = front-words n l (λ j. h (suc j)) i
 small-words : (w : List ℕ) (from to : ℕ) (l : List ℕ) → between from to w ≡ l → ((i : ℕ) → getD w i 0 < 2 ^ 64) → (i : ℕ) → getD l i 0 < 2 ^ 64
 small-words w from to l e h i = rw (← e) (front-words (to - from) (drop from w) (λ j. rw (getD-drop from w j 0) (h (from + j))) i)
 
-five-and : (k ve v te t x : List ℕ) → (k ++ (ve ++ (v ++ (te ++ t)))) ++ x ≡ k ++ (ve ++ (v ++ (te ++ (t ++ x))))
-five-and k ve v te t x = simp append-assoc
+all-seven : (k ve v te t x : List ℕ) → ((k ++ (ve ++ v)) ++ (te ++ t)) ++ x ≡ k ++ (ve ++ (v ++ (te ++ (t ++ x))))
+all-seven k ve v te t x = simp append-assoc
 
 raised-none : (l : List ℕ) → raised 0 l ≡ l
 unfolding raised
@@ -237,35 +237,37 @@ module _ (w0 : List ℕ) (c0 : Contents) (w1 : List ℕ) (c1 : Contents) (s : Li
         }
 
     -- what they leave
-    pub upper-laid : (out out1 out2 out3 : List ℕ) → length out ≡ room
+    pub upper-laid : (out out1 out2 : List ℕ) → length out ≡ room
         → out1 ≡ placed (to .«keys_at») (itemsBy (between (c0 .«keys_at») (c0 .«val_ends_at») w0) (between (c1 .«keys_at») (c1 .«val_ends_at») w1) ks) out
         → out2 ≡ layerBy (between (c0 .«val_ends_at») (c0 .«vals_at») w0) (between (c0 .«vals_at») (c0 .«time_ends_at») w0) (between (c1 .«val_ends_at») (c1 .«vals_at») w1) (between (c1 .«vals_at») (c1 .«time_ends_at») w1) ks vs (to .«val_ends_at») (to .«vals_at») out1
-        → out3 ≡ layerBy (between (c0 .«time_ends_at») (c0 .«times_at») w0) (between (c0 .«times_at») (c0 .«diff_ends_at») w0) (between (c1 .«time_ends_at») (c1 .«times_at») w1) (between (c1 .«times_at») (c1 .«diff_ends_at») w1) vs ts (to .«time_ends_at») (to .«times_at») out2
-        → out3 ≡ placed tableSize (upperOf all) out
+        → out2 ≡ placed tableSize (upperOf all) out
     unfolding named upperOf
-    upper-laid out out1 out2 out3 o a b d =
+    upper-laid out out1 out2 o a b =
         let k = keys all in
         let ve = valEnds all in
         let v = vals all in
-        let te = timeEnds all in
-        let t = times all in
         let nve : length ve ≡ length k = val-ends-count all in
-        let nte : length te ≡ length v = time-ends-count all in
-        let big : tableSize + 2 * length k + 2 * length v + 3 * length t ≤ length out = omega (arith, y .fits, count-keys, count-vals, count-times) in
+        let big : tableSize + 2 * length k + length v ≤ length out = omega (arith, y .fits, count-keys, count-vals) in
         let n1 : length (k ++ ve) ≡ 2 * length k = omega (arith, length-append k ve) in
-        let n2 : length ((k ++ ve) ++ v) ≡ 2 * length k + length v = omega (arith, length-append (k ++ ve) v) in
-        let n3 : length (((k ++ ve) ++ v) ++ te) ≡ 2 * length k + 2 * length v = omega (arith, length-append ((k ++ ve) ++ v) te) in
         let l1 : out1 ≡ placed tableSize k out = a ∙ rw (r0 .key-words, r1 .key-words, e) (ap (λ (l : List ℕ). placed tableSize l out) (sym (bodies .keys-by))) in
         let l2 : out2 ≡ placed tableSize ((k ++ ve) ++ v) out =
         next-placed tableSize (k ++ ve) v out (tableSize + 2 * length k) (next-placed tableSize k ve out (tableSize + length k) l1 refl (omega arith) refl) (omega arith) (omega arith)
         (b ∙ rw (r0 .val-end-words, r0 .val-words, r1 .val-end-words, r1 .val-words, e)
         (λ i. placed (tableSize + 2 * length k) (sym (bodies .vals-by) i) (placed (tableSize + length k) (sym (bodies .val-ends-by) i) out1))) in
-        let l3 : out3 ≡ placed tableSize ((((k ++ ve) ++ v) ++ te) ++ t) out =
-        next-placed tableSize (((k ++ ve) ++ v) ++ te) t out (tableSize + 2 * length k + 2 * length v)
-        (next-placed tableSize ((k ++ ve) ++ v) te out (tableSize + 2 * length k + length v) l2 (omega arith) (omega arith) refl) (omega arith) (omega arith)
-        (d ∙ rw (r0 .time-end-words, r0 .time-words, r1 .time-end-words, r1 .time-words, e)
-        (λ i. placed (tableSize + 2 * length k + 2 * length v) (sym (times-by es fs ts) i) (placed (tableSize + 2 * length k + length v) (sym (bodies .time-ends-by) i) out2))) in
-        l3 ∙ ap (λ (l : List ℕ). placed tableSize l out) (simp append-assoc)
+        l2 ∙ ap (λ (l : List ℕ). placed tableSize l out) (append-assoc k ve v)
+
+    pub middle-laid : (out out1 : List ℕ) → length out ≡ room
+        → out1 ≡ layerBy (between (c0 .«time_ends_at») (c0 .«times_at») w0) (between (c0 .«times_at») (c0 .«diff_ends_at») w0) (between (c1 .«time_ends_at») (c1 .«times_at») w1) (between (c1 .«times_at») (c1 .«diff_ends_at») w1) vs ts (to .«time_ends_at») (to .«times_at») out
+        → out1 ≡ placed (to .«time_ends_at») (middleOf all) out
+    unfolding named middleOf
+    middle-laid out out1 o d =
+        let k = keys all in
+        let v = vals all in
+        let nte : length (timeEnds all) ≡ length v = time-ends-count all in
+        let big : tableSize + 2 * length k + 2 * length v ≤ length out = omega (arith, y .fits, count-keys, count-vals) in
+        next-placed (to .«time_ends_at») (timeEnds all) (times all) out (to .«times_at») refl (rw e (omega arith)) (rw e (omega arith))
+        (d ∙ rw (r0 .time-end-words, r0 .time-words, r1 .time-end-words, r1 .time-words)
+        (λ i. placed (to .«times_at») (sym (times-by es fs ts) i) (placed (to .«time_ends_at») (sym (bodies .time-ends-by) i) out)))
 
     many0 : length (diffs es) ≡ length es
     many0 = ap length (diffs-all es stand0) ∙ length-map es (λ (f : Entry). f .diff)
@@ -329,16 +331,23 @@ module _ (w0 : List ℕ) (c0 : Contents) (w1 : List ℕ) (c1 : Contents) (s : Li
       )
 
     -- the table past all of them, and the chunk stands
-    pub whole-laid : (out out1 out2 out3 : List ℕ) (d : ℕ) → length out ≡ room → out1 ≡ placed tableSize (upperOf all) out → out2 ≡ placed (to .«diff_ends_at») (lowerOf all) out1
-        → d ≡ length (diffs all) → out3 ≡ withTable (to .nk) (to .nv) (to .nt) d out2 → out3 ≡ over (chunkOf all) out
-    unfolding upperOf lowerOf chunkOf
-    whole-laid out out1 out2 out3 d o a b n f =
+    pub whole-laid : (out out1 out2 out3 out4 : List ℕ) (d : ℕ) → length out ≡ room → out1 ≡ placed tableSize (upperOf all) out
+        → out2 ≡ placed (to .«time_ends_at») (middleOf all) out1 → out3 ≡ placed (to .«diff_ends_at») (lowerOf all) out2
+        → d ≡ length (diffs all) → out4 ≡ withTable (to .nk) (to .nv) (to .nt) d out3 → out4 ≡ over (chunkOf all) out
+    unfolding upperOf middleOf lowerOf chunkOf
+    whole-laid out out1 out2 out3 out4 d o a b f n g =
         let u = upperOf all in
-        let long : length u ≡ 2 * length (keys all) + 2 * length (vals all) + length (times all) =
-        omega (arith, length-append (keys all) (valEnds all ++ (vals all ++ (timeEnds all ++ times all))), length-append (valEnds all) (vals all ++ (timeEnds all ++ times all)), length-append (vals all) (timeEnds all ++ times all), length-append (timeEnds all) (times all), val-ends-count all, time-ends-count all) in
-        let more : length (lowerOf all) ≤ 2 * length (times all) = omega (arith, length-append (diffEnds all) (diffs all), diff-ends-count all, times-count all, diffs-fewer all) in
-        let both : out2 ≡ placed tableSize (u ++ lowerOf all) out =
-        next-placed tableSize u (lowerOf all) out (to .«diff_ends_at») a (rw e (omega arith)) (omega (arith, y .fits, count-keys, count-vals, count-times)) b in
-        f ∙ (λ i. withTable (e i .nk) (e i .nv) (e i .nt) (n i) (both i))
-        ∙ table-last (length (keys all)) (length (vals all)) (length (times all)) (length (diffs all)) (u ++ lowerOf all) out (omega (arith, length-append u (lowerOf all), y .fits, count-keys, count-vals, count-times))
-        ∙ ap (λ (l : List ℕ). over (tableOf (length (keys all)) (length (vals all)) (length (times all)) (length (diffs all)) ++ l) out) (five-and (keys all) (valEnds all) (vals all) (timeEnds all) (times all) (lowerOf all))
+        let m = middleOf all in
+        let l = lowerOf all in
+        let upper : length u ≡ 2 * length (keys all) + length (vals all) =
+        omega (arith, length-append (keys all) (valEnds all ++ vals all), length-append (valEnds all) (vals all), val-ends-count all) in
+        let middle : length (u ++ m) ≡ 2 * length (keys all) + 2 * length (vals all) + length (times all) =
+        omega (arith, length-append u m, length-append (timeEnds all) (times all), time-ends-count all) in
+        let lower : length l ≤ 2 * length (times all) = omega (arith, length-append (diffEnds all) (diffs all), diff-ends-count all, times-count all, diffs-fewer all) in
+        let two : out2 ≡ placed tableSize (u ++ m) out =
+        next-placed tableSize u m out (to .«time_ends_at») a (rw e (omega arith)) (omega (arith, y .fits, count-keys, count-vals, count-times)) b in
+        let three : out3 ≡ placed tableSize ((u ++ m) ++ l) out =
+        next-placed tableSize (u ++ m) l out (to .«diff_ends_at») two (rw e (omega arith)) (omega (arith, y .fits, count-keys, count-vals, count-times)) f in
+        g ∙ (λ i. withTable (e i .nk) (e i .nv) (e i .nt) (n i) (three i))
+        ∙ table-last (length (keys all)) (length (vals all)) (length (times all)) (length (diffs all)) ((u ++ m) ++ l) out (omega (arith, length-append (u ++ m) l, y .fits, count-keys, count-vals, count-times))
+        ∙ ap (λ (x : List ℕ). over (tableOf (length (keys all)) (length (vals all)) (length (times all)) (length (diffs all)) ++ x) out) (all-seven (keys all) (valEnds all) (vals all) (timeEnds all) (times all) l)

@@ -53,9 +53,13 @@ named w0 w1 s p = entriesBy (entries w0) (entries w1) (timeReports s p)
 abbrev pub placesFor : List Entry → Contents
 placesFor es = layoutOf (length (keys es)) (length (vals es)) (length (times es)) (length (times es))
 
--- the bodies down to the times
+-- the bodies down to the values
 unfoldable pub upperOf : List Entry → List ℕ
-upperOf es = keys es ++ (valEnds es ++ (vals es ++ (timeEnds es ++ times es)))
+upperOf es = keys es ++ (valEnds es ++ vals es)
+
+-- the times'
+unfoldable pub middleOf : List Entry → List ℕ
+middleOf es = timeEnds es ++ times es
 
 -- the diffs' own
 unfoldable pub lowerOf : List Entry → List ℕ

@@ -7,7 +7,7 @@ ghost use Rattle.merge.specs.Gallop.{between};
 ghost use Rattle.merge.specs.Suffix.{Within};
 ghost use Rattle.merge.specs.Scratch.{placed, reportsAt};
 ghost use Rattle.merge.specs.Write.{EndsRoom, RunsRoom, DiffsRoom, itemsBy, diffsBy, diffEndsBy, layerBy};
-ghost use Rattle.merge.specs.Weft.{Weft, named, placesFor, upperOf, lowerOf};
+ghost use Rattle.merge.specs.Weft.{Weft, named, placesFor, upperOf, middleOf, lowerOf};
 use crate::Spans;
 use crate::write;
 
@@ -165,7 +165,7 @@ fn places(
     chunk::layout(nk, nv, nt, nt)
 }
 
-// Writes the keys, the values of each key and the times of each value.
+// Writes the keys, and the values of each key.
 fn write_upper(
     words0: &[u64],
     found0: chunk::Contents,
@@ -210,6 +210,23 @@ fn write_upper(
         to.val_ends_at,
         to.vals_at,
     );
+}
+
+// Writes the times of each value.
+fn write_middle(
+    words0: &[u64],
+    found0: chunk::Contents,
+    words1: &[u64],
+    found1: chunk::Contents,
+    scratch: &[u64],
+    spans: Spans,
+    out: &mut [u64],
+    to: chunk::Contents,
+)
+    requires { ⌜ Weft (now words0) found0 (now words1) found1 (now scratch) spans (length (now out)) ⌝ }
+    requires { ⌜ to ≡ placesFor (named (now words0) (now words1) (now scratch) spans) ⌝ }
+    ensures { λ _. ⌜ now (out .exit) ≡ placed (to .«time_ends_at») (middleOf (named (now (words0 .entry)) (now (words1 .entry)) (now (scratch .entry)) spans)) (now (out .entry)) ⌝ }
+{
     write_lists(
         words0,
         found0.time_ends_at,
@@ -291,6 +308,7 @@ pub(crate) fn write_from_surveys(
 {
     let to = places(words0, found0, words1, found1, scratch, spans, out.len());
     write_upper(words0, found0, words1, found1, scratch, spans, out, to);
+    write_middle(words0, found0, words1, found1, scratch, spans, out, to);
     let end = write_lower(words0, found0, words1, found1, scratch, spans, out, to);
     chunk::write_table(out, to.nk, to.nv, to.nt, end - to.diffs_at);
 }

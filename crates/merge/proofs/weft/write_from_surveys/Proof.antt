@@ -1,7 +1,8 @@
-use mathlib.Core.Path.{_≡_, refl}
+-- `merge::weft::write_from_surveys` meets its contract: layer by layer, and then the table.
+use mathlib.Core.Path.{_≡_, refl, _∙_}
 use native.Mathlib.Omega.{arith}
-use borrow.Author.Needs.{needs}
 use Rattle.merge.proofs.Wefting.{in-room, whole-laid}
+use borrow.Author.Needs.{needs}
 use Rattle.merge.proofs.weft.write_from_surveys.Statement.{statement}
 use Rattle.merge.proofs.weft.write_from_surveys.Tie as tie
 use Rattle.merge.proofs.weft.write_from_surveys.Reads as reads
@@ -9,35 +10,40 @@ use Rattle.merge.proofs.weft.write_from_surveys.Lts as lts
 use Rattle.chunk.proofs.write_table.Reads as write-table-reads
 use Rattle.merge.proofs.weft.places.Reads as places-reads
 use Rattle.merge.proofs.weft.write_lower.Reads as write-lower-reads
+use Rattle.merge.proofs.weft.write_middle.Reads as write-middle-reads
 use Rattle.merge.proofs.weft.write_upper.Reads as write-upper-reads
 
--- src/pair.rt:361:9
+-- src/weft.rt:309:9
 places-requires : tie.Need-places-requires
 places-requires c κs = search needs
 
--- src/pair.rt:362:5
+-- src/weft.rt:310:5
 write-upper-requires : tie.Need-write-upper-requires
 write-upper-requires c κs = search needs
 
--- src/pair.rt:363:9
-write-lower-requires : tie.Need-write-lower-requires
-write-lower-requires c κs = (in-room _ _ (c .before .before .out .given) (c .before .before .before .before .before .before .before .before .before .before .pre), c .before .before .before .before .before .places .ensures)
+-- src/weft.rt:311:5
+write-middle-requires : tie.Need-write-middle-requires
+write-middle-requires c κs = (in-room _ _ (c .before .before .out .given) (c .before .before .before .before .before .before .before .before .before .before .pre), c .before .before .before .before .before .places .ensures)
 
--- src/pair.rt:364:50
+-- src/weft.rt:312:9
+write-lower-requires : tie.Need-write-lower-requires
+write-lower-requires c κs = (in-room _ _ (c .before .before .out2 .given ∙ c .before .before .before .before .before .before .out .given) (c .before .before .before .before .before .before .before .before .before .before .before .before .before .before .pre), c .before .before .before .before .before .before .before .before .before .places .ensures)
+
+-- src/weft.rt:313:50
 sub-write-table : tie.Need-sub-write-table
 sub-write-table c = search needs
 
--- src/pair.rt:364:5
+-- src/weft.rt:313:5
 write-table-requires : tie.Need-write-table-requires
 write-table-requires c κs = search needs
 
--- src/pair.rt:349:1
+-- src/weft.rt:297:1
 same-length : tie.Need-same-length
 same-length c = search needs
 
--- src/pair.rt:349:1
+-- src/weft.rt:297:1
 returns : tie.Need-returns
-returns c = whole-laid _ _ _ _ _ _ _ (c .before .before .before .before .before .before .before .before .before .before .before .before .before .before .before .before .before .before .pre) _ (c .before .before .before .before .before .before .before .before .before .before .before .before .before .places .ensures) _ _ _ _ _ refl (c .before .before .before .before .before .before .before .before .before .before .before .write-upper .ensures) (c .before .before .before .before .before .before .before .write-lower .ensures .1) (omega (arith, c .before .before .before .before .before .before .before .write-lower .ensures .0)) (c .before .before .write-table .ensures)
+returns c = whole-laid _ _ _ _ _ _ _ (c .before .before .before .before .before .before .before .before .before .before .before .before .before .before .before .before .before .before .before .before .before .before .pre) _ (c .before .before .before .before .before .before .before .before .before .before .before .before .before .before .before .before .before .places .ensures) _ _ _ _ _ _ refl (c .before .before .before .before .before .before .before .before .before .before .before .before .before .before .before .write-upper .ensures) (c .before .before .before .before .before .before .before .before .before .before .before .write-middle .ensures) (c .before .before .before .before .before .before .before .write-lower .ensures .1) (omega (arith, c .before .before .before .before .before .before .before .write-lower .ensures .0)) (c .before .before .write-table .ensures)
 
 pub write-from-surveys-spec : {M : Type 1} → statement M
 write-from-surveys-spec =
@@ -45,6 +51,7 @@ write-from-surveys-spec =
     (tie.spec
     places-requires
     write-upper-requires
+    write-middle-requires
     write-lower-requires
     sub-write-table
     write-table-requires

@@ -1,6 +1,7 @@
-use mathlib.Core.Path.{_≡_, refl, _∙_}
+-- `merge::weft::write_upper` meets its contract: the keys, and then the layer of the values.
+use mathlib.Core.Path.{_≡_, refl}
+use Rattle.merge.proofs.Wefting.{keys-room, keys-within, vals-room, upper-laid}
 use borrow.Author.Needs.{needs}
-use Rattle.merge.proofs.Wefting.{keys-room, keys-within, vals-room, times-room, upper-laid}
 use Rattle.merge.proofs.weft.write_upper.Statement.{statement}
 use Rattle.merge.proofs.weft.write_upper.Tie as tie
 use Rattle.merge.proofs.weft.write_upper.Reads as reads
@@ -8,27 +9,22 @@ use Rattle.merge.proofs.weft.write_upper.Lts as lts
 use Rattle.merge.proofs.weft.write_keys.Reads as write-keys-reads
 use Rattle.merge.proofs.weft.write_lists.Reads as write-lists-reads
 
--- src/pair.rt:264:5
+-- src/weft.rt:183:5
 write-keys-requires : tie.Need-write-keys-requires
 write-keys-requires c κs = (keys-room _ _ _ _ _ _ _ (c .before .before .before .before .before .pre .0) _ (c .before .before .before .before .before .pre .1) _ refl, keys-within _ _ _ _ _ _ _ (c .before .before .before .before .before .pre .0) _ (c .before .before .before .before .before .pre .1))
 
--- src/pair.rt:276:5
+-- src/weft.rt:195:5
 write-lists-requires : tie.Need-write-lists-requires
 write-lists-requires c κs = let r = vals-room _ _ _ _ _ _ _ (c .before .before .before .before .before .before .before .before .before .pre .0) _ (c .before .before .before .before .before .before .before .before .before .pre .1) _ (c .before .before .out .given) in (r .ends, (r .runs, (r .in0, r .in1)))
 
--- src/pair.rt:294:5
-write-lists-requires-2 : tie.Need-write-lists-requires-2
-write-lists-requires-2 c κs = let r = times-room _ _ _ _ _ _ _ (c .before .before .before .before .before .before .before .before .before .before .before .before .before .pre .0) _ (c .before .before .before .before .before .before .before .before .before .before .before .before .before .pre .1) _ (c .before .before .out2 .given ∙ c .before .before .before .before .before .before .out .given) in (r .ends, (r .runs, (r .in0, r .in1)))
-
--- src/pair.rt:250:1
+-- src/weft.rt:169:1
 same-length : tie.Need-same-length
 same-length c = search needs
 
--- src/pair.rt:250:1
+-- src/weft.rt:169:1
 returns : tie.Need-returns
-returns c = upper-laid _ _ _ _ _ _ _ (c .before .before .before .before .before .before .before .before .before .before .before .before .before .before .before .before .pre .0) _ (c .before .before .before .before .before .before .before .before .before .before .before .before .before .before .before .before .pre .1) _ _ _ _ refl (c .before .before .before .before .before .before .before .before .before .before .write-keys .ensures) (c .before .before .before .before .before .before .write-lists .ensures) (c .before .before .write-lists2 .ensures)
+returns c = upper-laid _ _ _ _ _ _ _ (c .before .before .before .before .before .before .before .before .before .before .before .before .pre .0) _ (c .before .before .before .before .before .before .before .before .before .before .before .before .pre .1) _ _ _ refl (c .before .before .before .before .before .before .write-keys .ensures) (c .before .before .write-lists .ensures)
 
 pub write-upper-spec : {M : Type 1} → statement M
 write-upper-spec =
-    tie.close
-    (tie.spec write-keys-requires write-lists-requires write-lists-requires-2 same-length returns)
+    tie.close (tie.spec write-keys-requires write-lists-requires same-length returns)

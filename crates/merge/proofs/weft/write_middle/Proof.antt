@@ -1,0 +1,24 @@
+-- `merge::weft::write_middle` meets its contract: the layer of the times.
+use mathlib.Core.Path.{_≡_, refl}
+use Rattle.merge.proofs.Wefting.{times-room, middle-laid}
+use borrow.Author.Needs.{needs}
+use Rattle.merge.proofs.weft.write_middle.Statement.{statement}
+use Rattle.merge.proofs.weft.write_middle.Tie as tie
+use Rattle.merge.proofs.weft.write_middle.Reads as reads
+use Rattle.merge.proofs.weft.write_middle.Lts as lts
+use Rattle.merge.proofs.weft.write_lists.Reads as write-lists-reads
+
+-- src/weft.rt:230:5
+write-lists-requires : tie.Need-write-lists-requires
+write-lists-requires c κs = let r = times-room _ _ _ _ _ _ _ (c .before .before .before .before .before .pre .0) _ (c .before .before .before .before .before .pre .1) _ refl in (r .ends, (r .runs, (r .in0, r .in1)))
+
+-- src/weft.rt:216:1
+same-length : tie.Need-same-length
+same-length c = search needs
+
+-- src/weft.rt:216:1
+returns : tie.Need-returns
+returns c = middle-laid _ _ _ _ _ _ _ (c .before .before .before .before .before .before .before .before .pre .0) _ (c .before .before .before .before .before .before .before .before .pre .1) _ _ refl (c .before .before .write-lists .ensures)
+
+pub write-middle-spec : {M : Type 1} → statement M
+write-middle-spec = tie.close (tie.spec write-lists-requires same-length returns)

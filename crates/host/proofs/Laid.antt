@@ -4,6 +4,7 @@ use mathlib.Core.Path.{_≡_, refl, sym, _∙_, ap}
 use mathlib.Core.Bool.{Bool, true, false, cond}
 use mathlib.Core.List.{List, [], _∷_}
 use native.Mathlib.Omega.{arith}
+use lib.Dec.{ltb}
 use lib.ListN.{length, set}
 use mir.Val.{boolByte}
 use borrow.Author.Tests.{lt-ltb, le-ltb}
@@ -12,7 +13,7 @@ use Rattle.chunk.specs.Check.{checkedOf}
 use Rattle.chunk.specs.Words.{over}
 use Rattle.walk.specs.declared.Started.{Started}
 use Rattle.walk.specs.Answer.{startedOf}
-use Rattle.host.specs.Answers.{numberIn, laidBy, checkNumber, checkAnswer, checkWords, walkerWords, startNumber, startAnswer, Answers}
+use Rattle.host.specs.Answers.{numberIn, short, laidBy, checkNumber, checkAnswer, checkWords, walkerWords, startNumber, startAnswer, Answers}
 
 -- four stores, then each more in front
 pub stored4 : (l : List ℕ) (a b c d : ℕ) → 4 ≤ length l → set (set (set (set l 0 a) 1 b) 2 c) 3 d ≡ over (a ∷ b ∷ c ∷ d ∷ []) l
@@ -42,8 +43,23 @@ pub as-number : (t : Bool) → boolByte t ≡ cond t 1 0
 as-number true = refl
 as-number false = refl
 
+-- the choice by two slices' words
+module _ (n m : ℕ) (one two : List ℕ) {A : Type 0} (a b : A) where
+  pub short-first : length one < n → a ≡ short n m one two a b
+  short-first h = sym (ap (λ (t : Bool). cond t a (cond (ltb (length two) m) a b)) (lt-ltb (length one) n h))
+
+  module _ (h : n ≤ length one) where
+    past-first : cond (ltb (length two) m) a b ≡ short n m one two a b
+    past-first = sym (ap (λ (t : Bool). cond t a (cond (ltb (length two) m) a b)) (le-ltb (length one) n h))
+
+    pub short-second : length two < m → a ≡ short n m one two a b
+    short-second k = sym (ap (λ (t : Bool). cond t a b) (lt-ltb (length two) m k)) ∙ past-first
+
+    pub short-none : m ≤ length two → b ≡ short n m one two a b
+    short-none k = sym (ap (λ (t : Bool). cond t a b) (le-ltb (length two) m k)) ∙ past-first
+
 -- a number that isn't 0 leaves the slice
-kept-by : (n : ℕ) (new l : List ℕ) → (n ≡ 0 → ⊥) → l ≡ laidBy n new l
+pub kept-by : (n : ℕ) (new l : List ℕ) → (n ≡ 0 → ⊥) → l ≡ laidBy n new l
 kept-by zero new l h = absurd (h refl)
 kept-by (suc n) new l h = refl
 

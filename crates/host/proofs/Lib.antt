@@ -1,3 +1,4 @@
 -- Laws of this crate's proofs that belong to no one function.
 pub mod Laid
 pub mod Stepping
+pub mod Parting

@@ -17,6 +17,10 @@ use Rattle.walk.specs.Answer.{startedOf}
 abbrev pub numberIn : ℕ → ℕ → List ℕ → ℕ
 numberIn room number answer = cond (ltb (length answer) room) 13 number
 
+-- the choice of a call that is lent two slices of words: the first where either has too few, else the second
+abbrev pub short {ℓ} : {A : Type ℓ} → ℕ → ℕ → List ℕ → List ℕ → A → A → A
+short n m one two a b = cond (ltb (length one) n) a (cond (ltb (length two) m) a b)
+
 -- the slice for the answer afterwards: the answer at its front where the number is 0, else as it was
 abbrev pub laidBy : ℕ → List ℕ → List ℕ → List ℕ
 laidBy zero new answer = over new answer

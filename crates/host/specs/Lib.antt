@@ -1,2 +1,4 @@
 pub mod Answers
 pub mod Steps
+pub mod Extracts
+pub mod Listing

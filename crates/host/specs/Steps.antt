@@ -2,10 +2,8 @@
 -- says done and stays"; it answers 5, walker unchanged).
 use Prim.Native.Nat.{ℕ}
 use mathlib.Core.Path.{_≡_}
-use mathlib.Core.Bool.{cond}
 use mathlib.Core.List.{List, [], _∷_}
-use lib.Dec.{ltb}
-use lib.ListN.{length, getD}
+use lib.ListN.{getD}
 use Rattle.chunk.specs.Words.{over}
 use Rattle.walk.specs.declared.Walker.{Walker}
 use Rattle.walk.specs.declared.Record.{Record}
@@ -13,7 +11,7 @@ use Rattle.walk.specs.declared.Stepped.{Stepped}
 use Rattle.walk.specs.declared.Stepped.the-variants.{Gave, Done, Refused}
 use Rattle.walk.specs.Answer.{placeOf, steppedBy}
 use Rattle.walk.specs.Walk.{step}
-use Rattle.host.specs.Answers.{walkerWords}
+use Rattle.host.specs.Answers.{walkerWords, short}
 
 -- the walker that seven words say
 abbrev pub walkerIn : List ℕ → Walker
@@ -51,11 +49,11 @@ recordOf Done l = l
 recordOf Refused l = l
 
 -- the choice of a step: the first where the walker or the record has too few words, else the second
-abbrev pub short {ℓ} : {A : Type ℓ} → List ℕ → List ℕ → A → A → A
-short walker found a b = cond (ltb (length walker) 7) a (cond (ltb (length found) 4) a b)
+abbrev pub stepShort {ℓ} : {A : Type ℓ} → List ℕ → List ℕ → A → A → A
+stepShort walker found a b = short 7 4 walker found a b
 
 -- what `rl_walk_step` promises: its number, and the walker's and the record's words afterwards
 pub record StepAnswers (w walker found : List ℕ) (r : ℕ) (walkerAfter foundAfter : List ℕ) : Type 0 where
-  pub returned : r ≡ short walker found 13 (numberOf (wentFrom w walker))
-  pub moved : walkerAfter ≡ short walker found walker (walkerOf (wentFrom w walker) walker)
-  pub gave : foundAfter ≡ short walker found found (recordOf (wentFrom w walker) found)
+  pub returned : r ≡ stepShort walker found 13 (numberOf (wentFrom w walker))
+  pub moved : walkerAfter ≡ stepShort walker found walker (walkerOf (wentFrom w walker) walker)
+  pub gave : foundAfter ≡ stepShort walker found found (recordOf (wentFrom w walker) found)

@@ -4,9 +4,11 @@ ghost use lib.ListN.{length};
 ghost use Rattle.chunk.specs.Words.{over};
 ghost use Rattle.form.specs.Form.{FormAnswers, UnsortedAnswers};
 ghost use Rattle.meld.specs.Meld.{Melded};
+ghost use Rattle.retain.specs.Answer.{verdictNumber};
 ghost use Rattle.retain.specs.Cut.{filterNumber, filterOut, Split};
 ghost use Rattle.merge.specs.Merge.{suffixNumber, suffixOut};
 ghost use Rattle.host.specs.Answers.{checkNumber, checkAnswer, walkerWords, startNumber, startAnswer, Answers};
+ghost use Rattle.host.specs.Extracts.{frontierIn, extractWords, ExtractAnswers};
 ghost use Rattle.host.specs.Steps.{walkerIn, recordWords, StepAnswers};
 
 // The words of a check's answer, of a walker and of a record.
@@ -15,6 +17,11 @@ const CHECK_WORDS: usize = 5;
 const WALKER_WORDS: usize = 7;
 
 const RECORD_WORDS: usize = 4;
+
+// The words of a frontier, a count and 128 places, and of an extract's answer, a verdict and a frontier.
+const FRONTIER_WORDS: usize = 129;
+
+const EXTRACT_WORDS: usize = 130;
 
 // What a step returns where no record is left.
 const DONE: u64 = 100;
@@ -177,4 +184,68 @@ pub extern "C" fn rl_walk_step(words: &[u64], walker: &mut [u64], found: &mut [u
         walk::Stepped::Done => DONE,
         walk::Stepped::Refused => 5,
     }
+}
+
+// The frontier that 129 words say.
+fn read_frontier(words: &[u64]) -> retain::Frontier
+    requires { ⌜ 129 ≤ length (now words) ⌝ }
+    ensures { λ r. ⌜ r ≡ frontierIn (now (words .entry)) ⌝ }
+{
+    let mut corners = [0; 128];
+    meld::copy_into(&mut corners, &words[1..FRONTIER_WORDS]);
+    retain::Frontier {
+        count: words[0],
+        corners,
+    }
+}
+
+// A verdict's number: 0 all kept, 1 all shipped, 2 mixed.
+fn verdict_word(verdict: retain::Verdict) -> u64
+    ensures { λ r. ⌜ r ≡ verdictNumber verdict ⌝ }
+{
+    match verdict {
+        retain::Verdict::AllKept => 0,
+        retain::Verdict::AllShipped => 1,
+        retain::Verdict::Mixed => 2,
+    }
+}
+
+// An extract's words at the front of a slice.
+fn write_extracted(out: &mut [u64], verdict: retain::Verdict, frontier: retain::Frontier)
+    requires { ⌜ 130 ≤ length (now out) ⌝ }
+    ensures { λ _. ⌜ now (out .exit) ≡ over (extractWords verdict frontier) (now (out .entry)) ⌝ }
+{
+    let corners = frontier.corners;
+    meld::copy_into(&mut out[2..EXTRACT_WORDS], &corners);
+    out[0] = verdict_word(verdict);
+    out[1] = frontier.count;
+}
+
+// The open records of a chunk kept and the others shipped; the answer is the verdict and the kept times' frontier.
+#[no_mangle]
+pub extern "C" fn rl_extract(
+    words: &[u64],
+    upper: &[u64],
+    answer: &mut [u64],
+    kept: &mut [u64],
+    shipped: &mut [u64],
+) -> u64
+    ensures { λ r. ⌜ ExtractAnswers (now (words .entry)) (now (upper .entry)) (now (answer .entry)) (now (kept .entry)) (now (shipped .entry)) r (now (answer .exit)) (now (kept .exit)) (now (shipped .exit)) ⌝ }
+{
+    if upper.len() < FRONTIER_WORDS {
+        return 13;
+    }
+    if answer.len() < EXTRACT_WORDS {
+        return 13;
+    }
+    let frontier = read_frontier(upper);
+    let found = retain::extract(words, frontier, kept, shipped);
+    let number = found.number;
+    if number != 0 {
+        return number;
+    }
+    let verdict = found.verdict;
+    let least = found.frontier;
+    write_extracted(answer, verdict, least);
+    0
 }

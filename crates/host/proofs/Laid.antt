@@ -15,6 +15,11 @@ use Rattle.walk.specs.declared.Started.{Started}
 use Rattle.walk.specs.Answer.{startedOf}
 use Rattle.host.specs.Answers.{numberIn, short, laidBy, checkNumber, checkAnswer, checkWords, walkerWords, startNumber, startAnswer, Answers}
 
+-- one store
+pub stored1 : (l : List ℕ) (a : ℕ) → 1 ≤ length l → set l 0 a ≡ over (a ∷ []) l
+stored1 (x ∷ l) a h = refl
+stored1 [] a h = absurd (omega arith)
+
 -- four stores, then each more in front
 pub stored4 : (l : List ℕ) (a b c d : ℕ) → 4 ≤ length l → set (set (set (set l 0 a) 1 b) 2 c) 3 d ≡ over (a ∷ b ∷ c ∷ d ∷ []) l
 stored4 (x ∷ y ∷ z ∷ u ∷ l) a b c d h = refl
@@ -65,17 +70,17 @@ kept-by (suc n) new l h = refl
 
 module _ (room n : ℕ) (new l : List ℕ) where
   -- too short a slice
-  answers-short : length l < room → Answers (numberIn room n l) (laidBy (numberIn room n l) new l) 13 l
+  pub answers-short : length l < room → Answers (numberIn room n l) (laidBy (numberIn room n l) new l) 13 l
   answers-short h =
       let e = sym (ap (λ (t : Bool). cond t 13 n) (lt-ltb (length l) room h)) in
       record { returned = e; laid = ap (λ (m : ℕ). laidBy m new l) e }
 
   module _ (h : room ≤ length l) where
-    with-room : n ≡ numberIn room n l
+    pub with-room : n ≡ numberIn room n l
     with-room = sym (ap (λ (t : Bool). cond t 13 n) (le-ltb (length l) room h))
 
     -- the call refuses
-    answers-refused : (r : ℕ) → r ≡ n → (r ≡ 0 → ⊥) → Answers (numberIn room n l) (laidBy (numberIn room n l) new l) r l
+    pub answers-refused : (r : ℕ) → r ≡ n → (r ≡ 0 → ⊥) → Answers (numberIn room n l) (laidBy (numberIn room n l) new l) r l
     answers-refused r e bad =
         record {
           returned = e ∙ with-room;
@@ -83,7 +88,7 @@ module _ (room n : ℕ) (new l : List ℕ) where
         }
 
     -- the call accepts
-    answers-laid : (after : List ℕ) → 0 ≡ n → after ≡ over new l → Answers (numberIn room n l) (laidBy (numberIn room n l) new l) 0 after
+    pub answers-laid : (after : List ℕ) → 0 ≡ n → after ≡ over new l → Answers (numberIn room n l) (laidBy (numberIn room n l) new l) 0 after
     answers-laid after e a =
         record { returned = e ∙ with-room; laid = a ∙ ap (λ (m : ℕ). laidBy m new l) (e ∙ with-room) }
 

@@ -2,3 +2,4 @@
 pub mod Laid
 pub mod Stepping
 pub mod Parting
+pub mod Surveying

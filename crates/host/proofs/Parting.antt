@@ -77,8 +77,8 @@ module _ (w upper answer kept shipped : List ℕ) where
           record {
             returned = z ∙ number-is ∙ short-none 129 130 upper answer _ _ h k;
             answered = a ∙ ap (λ (m : ℕ). laidBy m (answerWords r) answer) (z ∙ number-is)
-            ∙ ap (λ (x : Extracted). laidBy (numberUnder w (frontierIn upper) kept shipped) (answerWords x) answer) (u .answer)
-            ∙ short-none 129 130 upper answer _ _ h k;
+                ∙ ap (λ (x : Extracted). laidBy (numberUnder w (frontierIn upper) kept shipped) (answerWords x) answer) (u .answer)
+                ∙ short-none 129 130 upper answer _ _ h k;
             keeps = u .keeps ∙ short-none 129 130 upper answer _ _ h k;
             ships = u .ships ∙ short-none 129 130 upper answer _ _ h k;
           }

@@ -1,14 +1,18 @@
 ghost use mathlib.Core.Path.{_≡_};
-ghost use Prim.Native.Nat.{_≤_};
-ghost use lib.ListN.{length};
+ghost use mathlib.Core.List.{_∷_, _++_};
+ghost use Prim.Native.Nat.{_+_, _*_, _≤_};
+ghost use lib.ListN.{length, take, drop};
 ghost use Rattle.chunk.specs.Words.{over};
 ghost use Rattle.form.specs.Form.{FormAnswers, UnsortedAnswers};
 ghost use Rattle.meld.specs.Meld.{Melded};
 ghost use Rattle.retain.specs.Answer.{verdictNumber};
 ghost use Rattle.retain.specs.Cut.{filterNumber, filterOut, Split};
+ghost use Rattle.merge.specs.Survey.{reports};
+ghost use Rattle.survey.specs.Reports.{keysOf};
 ghost use Rattle.merge.specs.Merge.{suffixNumber, suffixOut};
 ghost use Rattle.host.specs.Answers.{checkNumber, checkAnswer, walkerWords, startNumber, startAnswer, Answers};
 ghost use Rattle.host.specs.Extracts.{frontierIn, extractWords, ExtractAnswers};
+ghost use Rattle.host.specs.Listing.{reportWords, SurveyAnswers};
 ghost use Rattle.host.specs.Steps.{walkerIn, recordWords, StepAnswers};
 
 // The words of a check's answer, of a walker and of a record.
@@ -22,6 +26,11 @@ const RECORD_WORDS: usize = 4;
 const FRONTIER_WORDS: usize = 129;
 
 const EXTRACT_WORDS: usize = 130;
+
+// The words of a report, and of a survey's answer.
+const REPORT_WORDS: usize = 3;
+
+const SURVEY_WORDS: usize = 1;
 
 // What a step returns where no record is left.
 const DONE: u64 = 100;
@@ -247,5 +256,53 @@ pub extern "C" fn rl_extract(
     let verdict = found.verdict;
     let least = found.frontier;
     write_extracted(answer, verdict, least);
+    0
+}
+
+// A report's three words from an index on.
+fn write_report(out: &mut [u64], at: usize, report: survey::Report)
+    requires { ⌜ at + 3 ≤ length (now out) ⌝ }
+    ensures { λ _. ⌜ now (out .exit) ≡ take at (now (out .entry)) ++ (report .kind ∷ report .low ∷ report .high ∷ drop (at + 3) (now (out .entry))) ⌝ }
+{
+    out[at] = report.kind;
+    out[at + 1] = report.low;
+    out[at + 2] = report.high;
+}
+
+// All reports of two chunks' keys, `count` of them, at the front of a slice.
+fn write_reports(a: &[u64], b: &[u64], count: usize, out: &mut [u64])
+    requires { ⌜ (count ≡ length (reports (keysOf (now a)) (keysOf (now b)))) × (3 * count ≤ length (now out)) ⌝ }
+    ensures { λ _. ⌜ now (out .exit) ≡ over (reportWords (reports (keysOf (now (a .entry))) (keysOf (now (b .entry))))) (now (out .entry)) ⌝ }
+{
+    let mut i = 0;
+    let mut j = 0;
+    let mut at = 0;
+    while at < count {
+        let next = survey::next_report(a, b, survey::Spot { i, j });
+        let report = next.report;
+        let spot = next.spot;
+        write_report(out, REPORT_WORDS * at, report);
+        i = spot.i;
+        j = spot.j;
+        at += 1;
+    }
+}
+
+// The survey of two chunks' keys: three words to a report in the lent words, and their number in the answer.
+#[no_mangle]
+pub extern "C" fn rl_survey(a: &[u64], b: &[u64], lent: &mut [u64], answer: &mut [u64]) -> u64
+    ensures { λ r. ⌜ SurveyAnswers (now (a .entry)) (now (b .entry)) (now (lent .entry)) (now (answer .entry)) r (now (lent .exit)) (now (answer .exit)) ⌝ }
+{
+    if answer.len() < SURVEY_WORDS {
+        return 13;
+    }
+    let said = survey::plan(a, b, lent.len() / REPORT_WORDS);
+    let number = said.number;
+    if number != 0 {
+        return number;
+    }
+    let count = said.count;
+    write_reports(a, b, count, lent);
+    answer[0] = count as u64;
     0
 }

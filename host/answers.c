@@ -1,6 +1,7 @@
 /* Answers cases of standard input, a line each, for oracle/compare.py: every number, every word written, and whether anything else
  * changed. `call word.. | slice | slice`, words in decimal; a line may start with @N, which lends each output N words more than the room
- * asked (or fewer; 3 more where nothing is said). The answer: the number, and for an accepted call each output after ` | `.
+ * asked (or fewer; 3 more where nothing is said), or with @N,U,A, by which an extract's frontier has U words more and the answer of an
+ * extract or a survey A (or fewer; 0 and 2 where nothing is said). The answer: the number, and for an accepted call each output after ` | `.
  * Each lent slice stands between guard words; `changed` in an answer says that a word changed that must not. */
 #include "rafterloop.h"
 #include <inttypes.h>
@@ -8,7 +9,7 @@
 #include <stdlib.h>
 #include <string.h>
 
-enum { GUARD = 4, SLICES = 4 };
+enum { GUARD = 4, SLICES = 6 };
 
 /* A slice between guards, and what it held when it was lent. */
 struct slice {
@@ -20,6 +21,7 @@ struct slice {
 static struct slice lent[SLICES];
 static int count;
 static int changed;
+static long more_upper, more_answer; /* of an extract and a survey */
 
 static struct slice *lend(size_t len)
 {
@@ -161,6 +163,44 @@ static void meld(char *one, char *two, long more)
         written_chunk(out);
 }
 
+/* `extract count corner..`: the corners stand in the first places of `upper`, and the places past them hold what lend() put there. */
+static void extract(char *corners, char *text, long more)
+{
+    struct slice *a = parse(text);
+    struct slice *given = parse(corners);
+    struct slice *upper = lend_room(RL_FRONTIER_WORDS, more_upper);
+    struct slice *answer = lend_room(RL_EXTRACT_WORDS, more_answer);
+    memcpy(upper->words, given->words, (given->len < upper->len ? given->len : upper->len) * sizeof(uint64_t));
+    size_t room = size_of(a->words, a->len);
+    struct slice *kept = lend_room(room, more), *shipped = lend_room(room, more);
+    remember();
+    uint64_t number = rl_extract(a->words, a->len, upper->words, upper->len, answer->words, answer->len, kept->words, kept->len,
+                                 shipped->words, shipped->len);
+    printf("%" PRIu64, number);
+    untouched(number, 3);
+    if (number)
+        return;
+    written_chunk(kept);
+    written_chunk(shipped);
+    written(answer, RL_EXTRACT_WORDS);
+}
+
+static void survey(char *one, char *two, long more)
+{
+    struct slice *a = parse(one), *b = parse(two);
+    size_t keys = (a->len > 3 && a->words[0] <= a->len ? a->words[0] : 0) + (b->len > 3 && b->words[0] <= b->len ? b->words[0] : 0);
+    struct slice *reports = lend_room(RL_REPORT_WORDS * keys, more);
+    struct slice *answer = lend_room(RL_SURVEY_WORDS, more_answer);
+    remember();
+    uint64_t number = rl_survey(a->words, a->len, b->words, b->len, reports->words, reports->len, answer->words, answer->len);
+    printf("%" PRIu64, number);
+    untouched(number, 2);
+    if (number)
+        return;
+    written(answer, RL_SURVEY_WORDS);
+    written(reports, RL_REPORT_WORDS * answer->words[0]);
+}
+
 static void fields(int start, char *text, long more)
 {
     struct slice *a = parse(text);
@@ -219,9 +259,15 @@ static void answer(char *line)
         parts[i] = bar + 1;
     }
     long more = 3;
+    more_upper = 0;
+    more_answer = 2;
     char *p = line + strspn(line, " ");
     if (*p == '@')
         more = strtol(p + 1, &p, 10);
+    if (*p == ',')
+        more_upper = strtol(p + 1, &p, 10);
+    if (*p == ',')
+        more_answer = strtol(p + 1, &p, 10);
     p += strspn(p, " ");
     char *rest = p + strcspn(p, " ");
     if (*rest)
@@ -234,6 +280,10 @@ static void answer(char *line)
         suffix(rest, parts[1], more);
     else if (!strcmp(p, "meld"))
         meld(parts[1], parts[2], more);
+    else if (!strcmp(p, "extract"))
+        extract(rest, parts[1], more);
+    else if (!strcmp(p, "survey"))
+        survey(parts[1], parts[2], more);
     else if (!strcmp(p, "check") || !strcmp(p, "start"))
         fields(*p == 's', parts[1], more);
     else if (!strcmp(p, "step"))

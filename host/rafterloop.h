@@ -8,10 +8,11 @@
  *
  *   1  the update words are not four each          7  the chunk is empty
  *   2  more than RL_LIMIT updates or times         8  the cursor is not a time with its own value and key
- *   3  updates out of order                       11  the second chunk is not past the first
- *   4  a diff outside -2^40 to 2^40               13  an output or an answer is short
- *   5  not a well formed chunk
- *   6  well formed, not settled: a time has no diff
+ *   3  updates out of order                        9  a frontier with over 128 corners, or out of order
+ *   4  a diff outside -2^40 to 2^40               10  the kept times have over 128 corners
+ *   5  not a well formed chunk                    11  the second chunk is not past the first
+ *   6  well formed, not settled: a time has       12  fewer words for reports than both inputs' keys ask
+ *      no diff                                    13  an output or an answer is short
  *
  * A chunk is the front of a slice: the counts nk, nv, nt, nd; then nk keys, nk value ends, nv values, nv time ends, nt times,
  * nt diff ends, nd diffs. Its size is 4 + 2 nk + 2 nv + 2 nt + nd. A time word is ignition * 2^32 + tick. A diff is signed.
@@ -35,6 +36,20 @@ extern "C" {
 #define RL_CHECK_WORDS 5
 #define RL_WALKER_WORDS 7
 #define RL_RECORD_WORDS 4
+#define RL_FRONTIER_WORDS 129
+#define RL_EXTRACT_WORDS 130
+#define RL_REPORT_WORDS 3
+#define RL_SURVEY_WORDS 1
+
+/* The verdict of an extract, the first word of its answer. */
+#define RL_ALL_KEPT 0
+#define RL_ALL_SHIPPED 1
+#define RL_MIXED 2
+
+/* The kind of a report, its first word. */
+#define RL_THIS 0
+#define RL_THAT 1
+#define RL_BOTH 2
 
 /* Whether `words` is a well formed chunk.
  * Answer, 5 words: settled (0 or 1), nk, nv, nt, nd. Refusals in order: 13 the answer has fewer than 5 words; 5. */
@@ -65,6 +80,24 @@ uint64_t rl_split_at(const uint64_t *words, size_t words_len, uint64_t n, uint64
 /* The chunk of the records from the time at index t on; k and v are the indices of its key and its value.
  * Room: out the size of the chunk. Refusals in order: 5, 6, 7, 8, 13. */
 uint64_t rl_suffix_chunk(uint64_t k, uint64_t v, uint64_t t, const uint64_t *words, size_t words_len, uint64_t *out, size_t out_len);
+
+/* The chunk of the open records into kept, and of the others into shipped. A time is open where some corner of `upper` is at or below it
+ * in ignition and in tick. `upper` is 129 words: the count of its corners, at most 128, and 128 time words, ignitions rising and ticks
+ * falling; those past the count are ignored.
+ * Answer, 130 words: the verdict (RL_ALL_KEPT, of an empty chunk too, RL_ALL_SHIPPED, RL_MIXED), then the frontier of the kept times as a
+ * count and 128 time words, in rising order, zero past the count.
+ * Room: each output the size of the chunk. Refusals in order: 13 `upper` has fewer than 129 words, or the answer fewer than 130; 9, 5, 6,
+ * 13, 10. */
+uint64_t rl_extract(const uint64_t *words, size_t words_len, const uint64_t *upper, size_t upper_len, uint64_t *answer, size_t answer_len,
+                    uint64_t *kept, size_t kept_len, uint64_t *shipped, size_t shipped_len);
+
+/* How the keys of two chunks interleave: ascending, a report for each shared key, and one for each longest run of one input's keys.
+ * A report is three words: RL_THIS and RL_THAT, with the run's first index in that input and the index past its last; RL_BOTH, with the
+ * shared key's index in a and in b. Words past the last report are unchanged.
+ * Answer, 1 word: the number of reports.
+ * Room: reports 3 * (nk of a + nk of b). Refusals in order: 13 the answer has no word; 5, 6, 7 for a; 5, 6, 7 for b; 12. */
+uint64_t rl_survey(const uint64_t *a, size_t a_len, const uint64_t *b, size_t b_len, uint64_t *reports, size_t reports_len, uint64_t *answer,
+                   size_t answer_len);
 
 /* Where a walk over a chunk starts.
  * Answer, 7 words: k, v, t, d, v_end, t_end, d_end. Refusals in order: 13 the walker has fewer than 7 words; 5. */

@@ -14,6 +14,8 @@ HERE = os.path.dirname(os.path.abspath(__file__))
 TOP = os.path.dirname(HERE)
 LIMIT = 1 << 20
 TOP64 = 1 << 64
+HALF = 1 << 32
+MOST = 128
 
 # ---- document 01, apart from both programs
 
@@ -80,8 +82,45 @@ def form_number(u, more, sort):
         return 4
     return 13 if more < 0 else 0
 
+def ordered(corners):
+    return all(a >> 32 < b >> 32 and a % HALF > b % HALF for a, b in zip(corners, corners[1:]))
+
+def is_open(corners, t):
+    return any(c >> 32 <= t >> 32 and c % HALF <= t % HALF for c in corners)
+
+def least(times):
+    """The times with no different one at or below them in both coordinates, rising."""
+    out = []
+    for t in sorted(set(times)):
+        if not out or t % HALF < out[-1] % HALF:
+            out.append(t)
+    return out
+
+def extract_number(head, a, more):
+    room, upper, answer = more
+    if upper < 0 or answer < 0:
+        return 13
+    corners = head[1:1 + head[0]]
+    if head[0] > MOST or not ordered(corners):
+        return 9
+    n = refusal(a) or (13 if room < 0 else 0)
+    return n or (10 if len(least(t for t in bodies(a)[4] if is_open(corners, t))) > MOST else 0)
+
+def survey_number(a, b, more):
+    if more[2] < 0:
+        return 13
+    for w in (a, b):
+        n = refusal(w) or (0 if w[2] else 7)
+        if n:
+            return n
+    return 12 if more[0] < 0 else 0
+
 def expected(call, head, parts, more):
     """The number that document 01 gives."""
+    if call == "extract":
+        return extract_number(head, parts[0], more)
+    if call == "survey":
+        return survey_number(parts[0], parts[1], more)
     if call in ("form", "form_unsorted"):
         return form_number(head, more, call == "form_unsorted")
     a = parts[0]
@@ -160,6 +199,67 @@ def in_order(u):
     rows = sorted((tuple(u[i:i + 4]) for i in range(0, len(u), 4)), key=lambda r: r[:3])
     return [x for r in rows for x in r]
 
+def time(ignition, tick):
+    return ignition << 32 | tick
+
+def stairs(ignitions, ticks):
+    """Every frontier over a grid."""
+    if not ignitions:
+        return [[]]
+    rest = stairs(ignitions[1:], ticks)
+    return rest + [[time(ignitions[0], t)] + f for t in ticks for f in rest if not f or f[0] % HALF < t]
+
+def subsets(places):
+    """Each list of these positions, the changes 1, -1, 2, -2 in turn."""
+    for picks in itertools.product((0, 1), repeat=len(places)):
+        yield [p + ((1, -1, 2, -2)[i % 4],) for i, (p, x) in enumerate(zip(places, picks)) if x]
+
+def upper_of(corners):
+    return [len(corners)] + corners
+
+ROOM = (3, 0, 2)    # words more than asked, for the outputs, the frontier and the answer
+EXACT = (0, 0, 0)
+
+def lent(rng):
+    return rng.choice((EXACT, ROOM, (0, 3, 0), (-1, 0, 0), (0, -1, 0), (0, 0, -1), (0, 0, 1)))
+
+def upper_on(rng, w):
+    """A frontier around a chunk's times; now and then one that is out of order or too long."""
+    times = bodies(w)[4] if well_formed(w) else []
+    some = rng.sample(times, min(len(times), rng.choice((0, 1, 2, 5)))) + [rng.randrange(TOP64) for _ in range(rng.choice((0, 0, 1)))]
+    if rng.random() < 0.15:
+        return rng.choice((upper_of(some), [MOST + 1] + some, [TOP64 - 1] + some, upper_of(sorted(some))))
+    return upper_of(least(some))
+
+def extracts():
+    """All chunks of eight positions, and of eight times of one value, under every frontier over a grid."""
+    frontiers = stairs([0, 1, 2, 3], [0, 5, 9, 10])
+    times = [(7, 3, time(i, t)) for i in (1, 2, 3) for t in (5, 9, 10)][:8]
+    for places in (PLACES, times):
+        for rows in subsets(places):
+            for f in frontiers:
+                yield ("extract", upper_of(f), [chunk_of(rows)], EXACT)
+    for n in (1, 2, 126, 127, 128, 129, 130, 300):
+        slope = [(1, 1, time(i + 1, n - i), 1) for i in range(n)]
+        corners = [r[2] for r in slope[:MOST + 2]]
+        for f in ([], [0], [time(1, 0)], [time(0, 1)], corners, corners[:MOST], corners[::-1], [time(n // 2, 0)], [time(2, 3), time(3, 3)]):
+            yield ("extract", upper_of(f), [chunk_of(slope)], EXACT)
+            yield ("extract", upper_of(f), [chunk_of(slope + [(2, 1, time(3, 0), 5)])], ROOM)
+
+def surveys():
+    """All pairs of key sets over eight keys."""
+    sets = [chunk_of(rows) for rows in subsets([(k, 1, 1) for k in (0, 1, 2, 5, 7, 8, TOP64 - 2, TOP64 - 1)])]
+    for a in sets:
+        for b in sets:
+            yield ("survey", [], [a, b], EXACT)
+
+def melds():
+    """Each chunk over eight positions with the changes 1 and -2, cut at each place."""
+    for picks in itertools.product((None, 1, -2), repeat=8):
+        rows = [p + (d,) for p, d in zip(PLACES, picks) if d is not None]
+        for cut in range(len(rows) + 1):
+            yield ("meld", [], [chunk_of(rows[:cut]), chunk_of(rows[cut:])], 0)
+
 SIZES = [0, 1, 2, 3, 4, 5, 7, 8, 9, 15, 16, 17, 31, 32, 33, 63, 64, 65, 127, 128, 129, 255, 256, 257, 1023, 1024, 1025, 4095, 4096, 4097]
 
 def damaged(rng, w):
@@ -191,6 +291,10 @@ def calls_on(rng, w, other):
         yield ("suffix", cursor_at(w, rng.randrange(w[2])), [w], rng.choice((0, 3, -1)))
     yield ("meld", [], [w, other], rng.choice((0, 3, -1)))
     yield ("meld", [], [other, w], rng.choice((0, 3, -1)))
+    yield ("extract", upper_on(rng, w), [w], lent(rng))
+    yield ("extract", upper_on(rng, other), [w], lent(rng))
+    yield ("survey", [], [w, other], lent(rng))
+    yield ("survey", [], [other, w], lent(rng))
 
 def step_on(rng, w):
     at = [rng.randrange(4) for _ in range(7)]
@@ -221,24 +325,30 @@ def cases(rng, count):
     for us in itertools.product(ups[::2], repeat=3):
         for call in ("form", "form_unsorted"):
             yield (call, [x for u in us for x in u], [], 0)
+    yield from melds()
+    yield from extracts()
+    yield from surveys()
     for n in SIZES + [65535, 65536]:
         for flat in (True, False):
             rows = rows_of(rng, n, flat)
             w, gaps = chunk_of(rows), chunk_of([r if rng.random() < 0.7 else r[:3] + (0,) for r in rows])
             cut = rng.randrange(n + 1)
-            if n < 65535 or flat:
-                yield ("check", [], [w], 3)
-                yield ("walk", [], [w], 3)
-                yield ("walk", [], [gaps], 3)
-                yield ("start", [], [gaps], 3)
-                yield ("filter", [], [gaps], 0)
-                yield ("split", [cut], [w + [1, 2, 3]], 0)
-                if n:
-                    yield ("suffix", cursor_at(w, rng.randrange(n)), [w], 0)
-                yield ("meld", [], [chunk_of(rows[:cut]), chunk_of(rows[cut:])], 0)
-                u = updates_of(rng, n, max(1, n // 3) if flat else 3)
-                yield ("form_unsorted", u, [], 0)
-                yield ("form", in_order(u), [], 0)
+            yield ("check", [], [w], 3)
+            yield ("walk", [], [w], 3)
+            yield ("walk", [], [gaps], 3)
+            yield ("start", [], [gaps], 3)
+            yield ("filter", [], [gaps], 0)
+            yield ("split", [cut], [w + [1, 2, 3]], 0)
+            if n:
+                yield ("suffix", cursor_at(w, rng.randrange(n)), [w], 0)
+            yield ("meld", [], [chunk_of(rows[:cut]), chunk_of(rows[cut:])], 0)
+            yield ("extract", upper_on(rng, w), [w], EXACT)
+            yield ("extract", upper_of([time(1, 1)]), [w], EXACT)
+            yield ("survey", [], [w, chunk_of(rows_of(rng, n, flat))], EXACT)
+            yield ("survey", [], [w, chunk_of([r for r in rows if rng.random() < 0.5])], EXACT)
+            u = updates_of(rng, n, max(1, n // 3) if flat else 3)
+            yield ("form_unsorted", u, [], 0)
+            yield ("form", in_order(u), [], 0)
     for _ in range(count):
         n = rng.randrange(1, 24)
         rows = rows_of(rng, n, rng.random() < 0.3, rng.choice((0, 0, 0.3)))
@@ -259,9 +369,11 @@ def cases(rng, count):
 
 def line_of(case, ours):
     call, head, parts, more = case
+    if call == "extract" and not ours:
+        head = head[1:1 + head[0]]
     text = " ".join([call] + [str(x) for x in head])
     if ours and more != 3:
-        text = "@%d " % more + text
+        text = "@" + (",".join(map(str, more)) if type(more) is tuple else str(more)) + " " + text
     return "".join([text] + [" | " + " ".join(map(str, p)) for p in parts])
 
 def run(command, lines):
@@ -308,7 +420,25 @@ def compare(case, mine, theirs):
         b = bodies(parts[0])
         good = mine[1] == ["0"] * 4 + [str(b[i][0]) for i in (1, 3, 5)] and theirs == "0 0 0 0 0 0 0"
         return KNOWN if good else "the words differ"
-    return None if mine[1:] == [words(f) for f in theirs.split("|")] else "the words differ"
+    theirs = [words(f) for f in theirs.split("|")]
+    if call == "survey":
+        return None if [str(len(theirs[0]) // 3)] == mine[1] and theirs[0] == mine[2] else "the reports differ"
+    if call == "extract":
+        return compare_extract(mine[1:], theirs)
+    return None if mine[1:] == theirs else "the words differ"
+
+def compare_extract(mine, theirs):
+    """The two outputs word by word; the frontier as a set, since the stand-in decides the order in which the Rust keeps it."""
+    kept, shipped, answer = mine
+    if [kept, shipped] != theirs[:2]:
+        return "the words differ"
+    answer = [int(x) for x in answer]
+    count, corners = answer[1], answer[2:]
+    if len(corners) != MOST or count > MOST or any(corners[count:]) or not ordered(corners[:count]):
+        return "01: the frontier's places"
+    if sorted(corners[:count]) != sorted(int(x) for x in theirs[2]):
+        return "the frontiers differ"
+    return None if answer[0] == (0 if shipped[2] == "0" else 1 if kept[2] == "0" else 2) else "01: the verdict"
 
 def main():
     p = argparse.ArgumentParser()
@@ -326,18 +456,20 @@ def main():
     mine = run(shlex.split(o.run) + [os.path.join(TOP, "build", "answers")], [line_of(c, True) for c in every])
     asked = [i for i, c in enumerate(every) if c[0] != "check" and (fits(c[2][0]) if c[0] == "step" else expected(*c) == 0)]
     theirs = dict(zip(asked, run([oracle], [line_of(every[i], False) for i in asked])))
-    total, accepted, known, differs = collections.Counter(), collections.Counter(), collections.Counter(), collections.defaultdict(list)
+    total, numbers, known, differs = collections.Counter(), collections.defaultdict(collections.Counter), collections.Counter(), collections.defaultdict(list)
     for i, case in enumerate(every):
         total[case[0]] += 1
-        accepted[case[0]] += mine[i].split("|")[0].strip() == "0"
+        numbers[case[0]][int(mine[i].split("|")[0].split()[0])] += 1
         wrong = compare(case, mine[i], theirs.get(i, ""))
         if wrong == KNOWN:
             known[case[0]] += 1
         elif wrong:
             differs[case[0]].append((wrong, line_of(case, True), mine[i], theirs.get(i, "not asked")))
     for call in sorted(total):
-        print("%-14s %7d cases, %7d accepted, %7d refused or done, %5d differ as known, %5d differ otherwise"
-              % (call, total[call], accepted[call], total[call] - accepted[call], known[call], len(differs[call])))
+        accepted = numbers[call].pop(0, 0)
+        print("%-14s %7d cases, %7d accepted, %7d refused or done (%s), %5d differ as known, %5d differ otherwise"
+              % (call, total[call], accepted, total[call] - accepted, ", ".join("%d: %d" % x for x in sorted(numbers[call].items())),
+                 known[call], len(differs[call])))
         for wrong, line, a, b in sorted(differs[call], key=lambda d: len(d[1]))[:o.show]:
             print("  %s: %s\n    ours %s\n    Rust %s" % (wrong, line[:300], a[:300], b[:300]))
     print("seed %d: %d cases, %d asked of the Rust, %d differ as known, %d differ otherwise"

@@ -8,6 +8,7 @@ mod forms;
 mod ground;
 mod lent;
 mod merges;
+mod recorded;
 mod surveys;
 
 fn main() {
@@ -23,6 +24,7 @@ fn main() {
     cuts::suffixes();
     cuts::melds();
     surveys::surveys();
+    recorded::replay();
 }
 
 // One line for one example.

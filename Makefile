@@ -21,7 +21,7 @@ build/%: host/%.c host/rafterloop.h $(LIB)
 	mkdir -p build
 	$(CC) $(CFLAGS) -Ihost -o $@ $< $(LIB)
 
-test: build/rafterloop
+test: build/rafterloop build/answers
 	RUN="$(RUN)" sh host/test.sh
 
 fold: build/rafterloop
@@ -30,7 +30,14 @@ fold: build/rafterloop
 compare: build/answers
 	python3 oracle/compare.py --run "$(RUN)"
 
+build/ours: bench/ours.c host/rafterloop.h $(LIB)
+	mkdir -p build
+	$(CC) $(CFLAGS) -O3 -Ihost -o $@ $< $(LIB)
+
+speed: build/ours
+	python3 bench/run.py --run "$(RUN)"
+
 clean:
 	rm -rf build
 
-.PHONY: all test fold compare clean
+.PHONY: all test fold compare speed clean

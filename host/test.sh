@@ -86,5 +86,39 @@ expect 1 'limit.log: refused, 2: ' check "$dir/limit.log"
 awk 'BEGIN { for (i = 0; i < 999999; i++) print i % 1000, 1, 1, 1, 1; print "1 1 1 1 1099511627777" }' > "$dir/last.log"
 expect 1 'last.log: refused, 4: ' check "$dir/last.log"
 
+# answer WANT LINE: what build/answers says of one case, its last zeros, five or more, written `..`
+answer() {
+    got=$(echo "$2" | $run build/answers | sed 's/\( 0\)\{5,\}$/ ../')
+    tests=$((tests + 1))
+    if [ "$got" != "$1" ]; then
+        failed=$((failed + 1))
+        echo "FAILED: $2: '$got', not '$1'"
+    fi
+}
+
+# document 01's chunk A, extracted and surveyed
+a='2 3 4 4 7 9 2 3 3 4 3 2 3 4 4294967301 4294967305 8589934592 4294967301 1 2 3 4 1 18446744073709551615 1 2'
+b='1 2 2 2 7 2 3 4 1 2 4294967305 4294967296 1 2 1 1'
+gap='1 1 1 0 7 1 3 1 5 0'
+answer '0 | 1 2 2 2 7 2 3 4 1 2 4294967305 8589934592 1 2 18446744073709551615 1 | 2 2 2 2 7 9 1 2 3 3 1 2 4294967301 4294967301 1 2 1 2 | 2 2 4294967305 8589934592 ..' \
+    "extract 2 4294967305 8589934592 | $a"
+answer "0 | $a | 0 0 0 0 | 0 2 4294967301 8589934592 .." "extract 1 0 | $a"
+answer "0 | 0 0 0 0 | $a | 1 .." "extract 0 | $a"
+answer '0 | 0 0 0 0 | 0 0 0 0 | ..' 'extract 0 | 0 0 0 0'
+answer 9 "extract 2 8589934592 4294967305 | $a"
+answer 9 'extract 129 0 | 1'
+answer 5 'extract 0 | 1'
+answer 6 "extract 0 | $gap"
+answer 13 "@-1 extract 0 | $a"
+answer 13 "@0,-1,0 extract 0 | $a"
+answer 13 "@0,0,-1 extract 0 | $a"
+answer '0 | 2 | 2 0 0 0 1 2' "@0,0,0 survey | $a | $b"
+answer '0 | 2 | 2 0 0 1 1 2' "survey | $b | $a"
+answer 12 "@-1 survey | $a | $b"
+answer 13 "@0,0,-1 survey | $a | $b"
+answer 5 "survey | 1 | $b"
+answer 6 "survey | $gap | $b"
+answer 7 "survey | $a | 0 0 0 0"
+
 echo "host/test.sh: $tests runs, $failed failed"
 [ "$failed" = 0 ]

@@ -260,6 +260,15 @@ def melds():
         for cut in range(len(rows) + 1):
             yield ("meld", [], [chunk_of(rows[:cut]), chunk_of(rows[cut:])], 0)
 
+def limits():
+    """The most updates and times, and one more."""
+    for n in (LIMIT, LIMIT + 1):
+        us = [x for i in range(n) for x in (i % 1000, 1, i, 1)]
+        yield ("form_unsorted", us, [], 0)
+        yield ("form", in_order(us), [], 0)
+        rows = [(1, 1, t, 1) for t in range(n)]
+        yield ("meld", [], [chunk_of(rows[:n // 2]), chunk_of(rows[n // 2:])], 0)
+
 SIZES = [0, 1, 2, 3, 4, 5, 7, 8, 9, 15, 16, 17, 31, 32, 33, 63, 64, 65, 127, 128, 129, 255, 256, 257, 1023, 1024, 1025, 4095, 4096, 4097]
 
 def damaged(rng, w):
@@ -325,6 +334,7 @@ def cases(rng, count):
     for us in itertools.product(ups[::2], repeat=3):
         for call in ("form", "form_unsorted"):
             yield (call, [x for u in us for x in u], [], 0)
+    yield from limits()
     yield from melds()
     yield from extracts()
     yield from surveys()

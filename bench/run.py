@@ -1,0 +1,122 @@
+#!/usr/bin/env python3
+"""Times the library's calls beside the Rust's, on the same inputs, and prints the table of docs/SPEED.md.
+
+    make speed                                               builds both, and runs this
+    python3 bench/run.py [--sizes N..] [--seconds S] [--docs DOCS_SRC] [--run EMULATOR]
+
+The inputs are made here with a fixed seed and handed to both in one file: build/ours (bench/ours.c over libhost.a) and
+oracle/target/release/speed (the Rust over the stand-ins of oracle/README.md; both built for release). Each gives the best and the median
+of its runs, and a sum over all words of its result; the sums must be equal, so both did the same work. A time is nanoseconds for each
+record of the input. Two shapes: flat, one value a key and one time a value; trie, about four values a key and four times a value.
+
+On a machine that isn't x86-64 the library runs under an emulator. Its times then say nothing, and none are printed: the run only shows
+that everything builds and that the results are the same."""
+import argparse, array, os, platform, random, shlex, subprocess, sys
+TOP = os.path.dirname(os.path.dirname(os.path.abspath(__file__)))
+sys.path.insert(0, os.path.join(TOP, "oracle"))
+from compare import chunk_of, cursor_at, TOP64
+
+CALLS = ["check", "form", "form_unsorted", "filter_zero", "split_at", "extract", "suffix_chunk", "meld", "walk", "survey", "merge_pair", "plain merge"]
+BUDGET = {"form": 1.5, "form_unsorted": 3.0, "filter_zero": 1.5, "split_at": 1.5, "extract": 2.0, "merge_pair": 1.0}
+LIMIT = 1 << 20
+
+def rows_of(rng, n, per_key, per_val):
+    """n records, in order: about so many values a key and times a value."""
+    seen = {}
+    while len(seen) < n:
+        key = rng.randrange(1 << 63)
+        for _ in range(per_key):
+            val = rng.randrange(1000)
+            for _ in range(per_val):
+                if len(seen) < n:
+                    seen[key, val, rng.randrange(100) << 32 | rng.randrange(1000)] = rng.choice((1, -1))
+    return [p + (d,) for p, d in sorted(seen.items())]
+
+def spread(rng, rows, m):
+    """m records over the length of these: every other one at a position of theirs, half of which cancel."""
+    out = {}
+    for i in range(m):
+        k, v, t, d = rows[i * len(rows) // m]
+        if i % 2:
+            k, d = k + 1, 1
+        out[k, v, t] = d * rng.choice((1, -1))
+    return [p + (d,) for p, d in sorted(out.items())]
+
+def cases(n, per_key, per_val):
+    """(call, records, first slice, second slice)"""
+    rng = random.Random(n + per_key)
+    rows = rows_of(rng, n, per_key, per_val)
+    w = chunk_of(rows)
+    gaps = chunk_of([r if i % 4 else r[:3] + (0,) for i, r in enumerate(rows)])
+    ups = [r[:3] + (rng.choice((1, -1)) % TOP64,) for r in (rows[rng.randrange(max(1, 3 * n // 4))] for _ in range(n))]
+    flat = lambda us: [x for u in us for x in u]
+    other = rows_of(rng, n, per_key, per_val)
+    half = [r for i, r in enumerate(other) if i % 2] + [rows[i] for i in range(0, n, 4)]
+    half = sorted({r[:3]: r for r in half}.values())
+    yield ("check", n, w, [])
+    yield ("form", n, flat(sorted(ups, key=lambda u: u[:3])), [])
+    yield ("form_unsorted", n, flat(ups), [])
+    yield ("filter_zero", n, gaps, [])
+    yield ("split_at", n, w, [n // 2])
+    yield ("extract", n, w, [20 << 32 | 700, 60 << 32 | 300])
+    yield ("suffix_chunk", n, w, cursor_at(w, n // 2))
+    yield ("meld", n, chunk_of(rows[:n // 2]), chunk_of(rows[n // 2:]))
+    yield ("walk", n, w, [])
+    yield ("survey", n + len(half), w, chunk_of(half))
+    for b in (spread(rng, rows, 64), half):
+        if 256 <= n and n + len(b) <= LIMIT:
+            for call in ("merge_pair", "plain merge"):
+                yield (call, n + len(b), w, chunk_of(b))
+
+def built(o):
+    speed = os.path.join(TOP, "oracle", "target", "release", "speed")
+    if not os.path.exists(speed):
+        subprocess.run(["sh", os.path.join(TOP, "oracle", "build.sh"), os.path.abspath(o.docs)], check=True)
+    return speed
+
+def answers(command, path, seconds):
+    out = subprocess.run(command + [path, str(int(seconds * 1e9))], capture_output=True, text=True)
+    if out.returncode:
+        sys.exit("%s: status %d\n%s" % (command, out.returncode, out.stderr))
+    return [None if l == "-" else [int(x) for x in l.split()] for l in out.stdout.split("\n")[:-1]]
+
+def machine():
+    name = [l.split(":", 1)[1].strip() for l in open("/proc/cpuinfo") if l.startswith("model name")]
+    return "%s, %s, %s" % (name[0] if name else platform.machine(), platform.platform(), platform.machine())
+
+def main():
+    p = argparse.ArgumentParser()
+    p.add_argument("--sizes", type=int, nargs="+", default=[1024, 65536, 1 << 20])
+    p.add_argument("--seconds", type=float, default=0.3, help="for each case, of each of the two")
+    p.add_argument("--docs", default=os.path.join(TOP, "..", "shared", "docs", "src"))
+    p.add_argument("--run", default="")
+    o = p.parse_args()
+    speed, ours = built(o), shlex.split(o.run) + [os.path.join(TOP, "build", "ours")]
+    native = platform.machine() == "x86_64" and not o.run
+    path = os.path.join(TOP, "build", "cases.bin")
+    print("Machine: %s. Best of the runs within %g s a case.\n" % (machine(), o.seconds))
+    print("| call | shape | records | ours, ns a record | the Rust's | ratio | budget |\n|---|---|---|---|---|---|---|")
+    wrong = same = 0
+    for n in o.sizes:
+        for shape, per in (("flat", 1), ("trie", 4)):
+            every = list(cases(n, per, per))
+            with open(path, "wb") as f:
+                for call, _, a, b in every:
+                    for part in ([CALLS.index(call)], [len(a)], [x % TOP64 for x in a], [len(b)], [x % TOP64 for x in b]):
+                        array.array("Q", part).tofile(f)
+            mine, theirs = answers(ours, path, o.seconds), answers([speed], path, o.seconds)
+            for (call, records, _, _), x, y in zip(every, mine, theirs):
+                if x and y:
+                    same, wrong = same + (x[2] == y[2]), wrong + (x[2] != y[2])
+                    if x[2] != y[2]:
+                        print("%s, %s, %d records: the results differ" % (call, shape, records))
+                ns = lambda z: "%.2f" % (z[0] / records) if z and native else "-"
+                ratio = "%.2f" % (x[0] / y[0]) if x and y and native else "-"
+                print("| %s | %s | %d | %s | %s | %s | %s |" % (call, shape, records, ns(x), ns(y), ratio, BUDGET.get(call, "-")))
+    print("\n%d results the same in both, %d differ" % (same, wrong))
+    if not native:
+        print("The library ran under an emulator, so no times are given.")
+    sys.exit(1 if wrong else 0)
+
+if __name__ == "__main__":
+    main()

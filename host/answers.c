@@ -1,7 +1,7 @@
 /* Answers cases of standard input, a line each, for oracle/compare.py: every number, every word written, and whether anything else
  * changed. `call word.. | slice | slice`, words in decimal; a line may start with @N, which lends each output N words more than the room
- * asked (or fewer; 3 more where nothing is said), or with @N,U,A, by which an extract's frontier has U words more and the answer of an
- * extract or a survey A (or fewer; 0 and 2 where nothing is said). The answer: the number, and for an accepted call each output after ` | `.
+ * asked (or fewer; 3 more where nothing is said), or with @N,U,A, by which an extract's frontier or a merge's scratch has U words more and the
+ * answer of an extract, a survey or a merge A (or fewer; 0 and 2 where nothing is said). The answer: the number, and for an accepted call each output after ` | `.
  * Each lent slice stands between guard words; `changed` in an answer says that a word changed that must not. */
 #include "rafterloop.h"
 #include <inttypes.h>
@@ -21,7 +21,7 @@ struct slice {
 static struct slice lent[SLICES];
 static int count;
 static int changed;
-static long more_upper, more_answer; /* of an extract and a survey */
+static long more_upper, more_answer; /* of an extract, a survey and a merge */
 
 static struct slice *lend(size_t len)
 {
@@ -201,6 +201,32 @@ static void survey(char *one, char *two, long more)
     written(reports, RL_REPORT_WORDS * answer->words[0]);
 }
 
+#ifdef RL_MERGE_WORDS
+/* Scratch is the caller's no more after acceptance or 14; its guards still are. */
+static void merge(char *one, char *two, long more)
+{
+    struct slice *a = parse(one), *b = parse(two);
+    size_t items = 0;
+    for (int i = 0; i < 3; i++)
+        items += (a->len > 3 && a->words[i] <= a->len ? a->words[i] : 0) + (b->len > 3 && b->words[i] <= b->len ? b->words[i] : 0);
+    struct slice *out = lend_room(size_of(a->words, a->len) + size_of(b->words, b->len) - 4, more);
+    struct slice *answer = lend_room(RL_MERGE_WORDS, more_answer);
+    struct slice *scratch = lend_room(3 * items, more_upper);
+    remember();
+    uint64_t number = rl_merge_pair(a->words, a->len, b->words, b->len, scratch->words, scratch->len, out->words, out->len, answer->words,
+                                    answer->len);
+    printf("%" PRIu64, number);
+    same_from(scratch, number && number != 14 ? 0 : scratch->len);
+    count--;
+    untouched(number, 2);
+    count++;
+    if (number)
+        return;
+    written_chunk(out);
+    written(answer, RL_MERGE_WORDS);
+}
+#endif
+
 static void fields(int start, char *text, long more)
 {
     struct slice *a = parse(text);
@@ -284,6 +310,10 @@ static void answer(char *line)
         extract(rest, parts[1], more);
     else if (!strcmp(p, "survey"))
         survey(parts[1], parts[2], more);
+#ifdef RL_MERGE_WORDS
+    else if (!strcmp(p, "merge"))
+        merge(parts[1], parts[2], more);
+#endif
     else if (!strcmp(p, "check") || !strcmp(p, "start"))
         fields(*p == 's', parts[1], more);
     else if (!strcmp(p, "step"))

@@ -115,8 +115,34 @@ def survey_number(a, b, more):
             return n
     return 12 if more[0] < 0 else 0
 
+def records(w):
+    """(position, signed diff) of each time of a settled chunk."""
+    keys, vends, vals, tends, times, dends, diffs = bodies(w)
+    v = k = 0
+    for t in range(len(times)):
+        v += t >= tends[v]
+        k += v >= vends[k]
+        yield (keys[k], vals[v], times[t]), signed(diffs[t])
+
+def merge_number(a, b, more):
+    room, scratch, answer = more
+    if answer < 0:
+        return 13
+    for w in (a, b):
+        n = refusal(w) or (0 if w[2] else 7)
+        if n:
+            return n
+    if a[2] + b[2] > LIMIT:
+        return 2
+    if scratch < 0 or room < 0:
+        return 12 if scratch < 0 else 13
+    first = dict(records(a))
+    return 14 if any(not -(1 << 63) <= d + first[p] < 1 << 63 for p, d in records(b) if p in first) else 0
+
 def expected(call, head, parts, more):
     """The number that document 01 gives."""
+    if call == "merge":
+        return merge_number(parts[0], parts[1], more)
     if call == "extract":
         return extract_number(head, parts[0], more)
     if call == "survey":
@@ -259,6 +285,30 @@ def melds():
         rows = [p + (d,) for p, d in zip(PLACES, picks) if d is not None]
         for cut in range(len(rows) + 1):
             yield ("meld", [], [chunk_of(rows[:cut]), chunk_of(rows[cut:])], 0)
+
+def merges(rng, count):
+    """All pairs of sets of eight positions, shared ones cancelling at every other place and added at the others, and the reverse; then random
+    ones, with sums near the ends of 64 bits, at sizes around powers of two."""
+    sets = list(subsets(PLACES))
+    for odd in (0, 1):
+        for x in sets:
+            for y in sets:
+                yield ("merge", [], [chunk_of(x), chunk_of([r[:3] + (-r[3] if PLACES.index(r[:3]) % 2 == odd else r[3],) for r in y])], EXACT)
+    for n in SIZES + [65535, 65536]:
+        for flat in (True, False):
+            x, y = rows_of(rng, n, flat), rows_of(rng, n, flat)
+            y = sorted({r[:3]: r for r in y + [r[:3] + (-r[3],) for r in x if rng.random() < 0.3 and signed(r[3] % TOP64) != -(1 << 63)]}.values())
+            for few in (y, y[::max(1, n // 64)]):
+                yield ("merge", [], [chunk_of(x), chunk_of(few)], EXACT)
+                yield ("merge", [], [chunk_of(few), chunk_of(x)], EXACT)
+    for _ in range(count):
+        n = rng.randrange(1, 24)
+        x, y = rows_of(rng, n, False, rng.choice((0, 0, 0.1))), rows_of(rng, rng.randrange(1, 24), False)
+        w, other = chunk_of(x), chunk_of(y)
+        yield ("merge", [], [w, other], lent(rng))
+        yield ("merge", [], [other, w], lent(rng))
+        yield ("merge", [], [damaged(rng, w), other], lent(rng))
+        yield ("merge", [], [other, damaged(rng, w)], lent(rng))
 
 def limits():
     """The most updates and times, and one more."""
@@ -431,6 +481,10 @@ def compare(case, mine, theirs):
         good = mine[1] == ["0"] * 4 + [str(b[i][0]) for i in (1, 3, 5)] and theirs == "0 0 0 0 0 0 0"
         return KNOWN if good else "the words differ"
     theirs = [words(f) for f in theirs.split("|")]
+    if call == "merge":
+        survivor = theirs[1] + ["0"] * 3
+        survivor = [str(["none", "first", "second"].index(survivor[0]))] + survivor[1:4]
+        return None if mine[1:] == [theirs[0], survivor] else "the words differ"
     if call == "survey":
         return None if [str(len(theirs[0]) // 3)] == mine[1] and theirs[0] == mine[2] else "the reports differ"
     if call == "extract":
@@ -462,8 +516,12 @@ def main():
     oracle = os.path.join(HERE, "target", "checked", "oracle")
     if not os.path.exists(oracle):
         subprocess.run(["sh", os.path.join(HERE, "build.sh"), os.path.abspath(o.docs)], check=True)
-    every = [c for c in cases(random.Random(o.seed), o.random) if not o.only or c[0] == o.only]
-    mine = run(shlex.split(o.run) + [os.path.join(TOP, "build", "answers")], [line_of(c, True) for c in every])
+    answers = shlex.split(o.run) + [os.path.join(TOP, "build", "answers")]
+    every = list(cases(random.Random(o.seed), o.random))
+    if run(answers, ["merge | |"]) != ["unknown"]:
+        every += merges(random.Random(o.seed), o.random)
+    every = [c for c in every if not o.only or c[0] == o.only]
+    mine = run(answers, [line_of(c, True) for c in every])
     asked = [i for i, c in enumerate(every) if c[0] != "check" and (fits(c[2][0]) if c[0] == "step" else expected(*c) == 0)]
     theirs = dict(zip(asked, run([oracle], [line_of(every[i], False) for i in asked])))
     total, numbers, known, differs = collections.Counter(), collections.defaultdict(collections.Counter), collections.Counter(), collections.defaultdict(list)

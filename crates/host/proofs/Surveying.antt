@@ -6,7 +6,7 @@ use native.Mathlib.Omega.{arith}
 use lib.ListN.{length, take, drop, set, length-append, length-take, length-drop, take-append-drop}
 use lib.Seq.{sets-eq}
 use lib.Dec.{ltb}
-use borrow.Author.Tests.{ltb-true, ltb-false}
+use borrow.Author.Tests.{ltb-true, ltb-false, lt-ltb, le-ltb}
 use Rattle.laws.proofs.Tests.{by-test}
 use Rattle.chunk.specs.Words.{over, keyBody}
 use Rattle.merge.specs.Survey.{this, that, both, reports, surveyNumber}
@@ -21,7 +21,7 @@ use Rattle.survey.proofs.Nexts.{Turn, turn, pair-whole}
 use Rattle.survey.proofs.Plans.{taken-keys, Accepted, accepted}
 use Rattle.survey.proofs.Fills.{count-room}
 use Rattle.host.specs.Answers.{laidBy, Answers}
-use Rattle.host.specs.Listing.{reportWords, reportsOf, listNumber, SurveyAnswers}
+use Rattle.host.specs.Listing.{RoomInWords, reportWords, reportsOf, listNumber, SurveyAnswers}
 use Rattle.host.proofs.Laid.{stored1, kept-by, answers-short, answers-refused, answers-laid}
 
 -- a report's words, and those of the reports behind it
@@ -120,6 +120,12 @@ module _ (xs ys : List ℕ) (count : ℕ) (out₀ : List ℕ) where
         })
 
 -- ---- all of a survey
+pub room-in-words : RoomInWords
+room-in-words words n =
+    by-test (ltb words (3 * n))
+    (λ t. lt-ltb (words / 3) n (omega (arith, ltb-true words (3 * n) t)) ∙ sym t)
+    (λ t. le-ltb (words / 3) n (omega (arith, ltb-false words (3 * n) t)) ∙ sym t)
+
 third : (l : ℕ) → 3 * (l / 3) ≤ l
 third l = omega arith
 

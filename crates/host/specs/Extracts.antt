@@ -24,13 +24,13 @@ extractWords v f = verdictNumber v ∷ f .count ∷ f .corners
 abbrev pub numberUnder : List ℕ → Frontier → List ℕ → List ℕ → ℕ
 numberUnder w f kept shipped = extractNumber (f .count) (f .corners) w kept shipped
 
--- and the words of its whole answer
-abbrev pub answerWords : Extracted → List ℕ
-answerWords r = extractWords (r .verdict) (r .frontier)
-
--- which is this one
+-- and its whole answer
 abbrev pub extractedUnder : List ℕ → Frontier → List ℕ → List ℕ → Extracted
 extractedUnder w f kept shipped = extractedAs (numberUnder w f kept shipped) (take (f .count) (f .corners)) (entries w)
+
+-- the words of a whole answer
+abbrev pub answerWords : Extracted → List ℕ
+answerWords r = extractWords (r .verdict) (r .frontier)
 
 -- the choice of an extract: the first where the frontier or the answer has too few words, else the second
 abbrev pub extractShort {ℓ} : {A : Type ℓ} → List ℕ → List ℕ → A → A → A

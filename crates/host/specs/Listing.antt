@@ -1,8 +1,9 @@
 -- Survey in words (document 01, "Survey": "a report for each shared key with its two indices, and one for each longest run of one input's
 -- keys"; "The answer is their number. Report records after the last stay unchanged"): three words to a report.
-use Prim.Native.Nat.{ℕ, _/_}
+use Prim.Native.Nat.{ℕ, _*_, _/_}
 use mathlib.Core.Path.{_≡_}
 use mathlib.Core.List.{List, [], _∷_}
+use lib.Dec.{ltb}
 use lib.ListN.{length}
 use Rattle.chunk.specs.Words.{keyBody}
 use Rattle.merge.specs.Survey.{Report, this, that, both, reports, surveyNumber}
@@ -15,9 +16,14 @@ reportWords (this l h ∷ rs) = 0 ∷ l ∷ h ∷ reportWords rs
 reportWords (that l h ∷ rs) = 1 ∷ l ∷ h ∷ reportWords rs
 reportWords (both i j ∷ rs) = 2 ∷ i ∷ j ∷ reportWords rs
 
--- the number of `rl_survey`: that of the survey with room for a report in each three words, once the answer has its word
+-- the number of `rl_survey`: that of the survey with room for a report in each three words, once the answer has its word. So 12 is given where
+-- fewer than three words are lent for each key of both (`RoomInWords`)
 abbrev pub listNumber : List ℕ → List ℕ → List ℕ → List ℕ → ℕ
 listNumber a b lent answer = numberIn 1 (surveyNumber a b (length lent / 3)) answer
+
+-- fewer reports than n have room exactly where fewer than 3 n words are lent
+abbrev pub RoomInWords : Type 0
+RoomInWords = (words n : ℕ) → ltb (words / 3) n ≡ ltb words (3 * n)
 
 -- the reports of two chunks' keys
 abbrev pub reportsOf : List ℕ → List ℕ → List Report

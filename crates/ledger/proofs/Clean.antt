@@ -7,7 +7,7 @@ use native.Mathlib.Omega.{arith}
 use lib.ListN.{length, take, drop, length-append, length-take, length-drop}
 use Rattle.chunk.specs.Entry.{Entry, stands, rising, every, keep}
 use Rattle.chunk.specs.Bodies.{chunkOf}
-use Rattle.chunk.specs.Words.{wellFormed, settled, entries, nt, limit, over}
+use Rattle.chunk.specs.Words.{wellFormed, settled, entries, nt, limit}
 use Rattle.chunk.specs.Refusal.{written}
 use Rattle.meld.specs.Meld.{follows}
 use Rattle.laws.specs.OneChunk.{fits, Says}
@@ -87,21 +87,18 @@ clean-of w h =
 pub counted-of : (w : List ℕ) → sound w ≡ true → length (entries w) ≡ nt w
 counted-of w h = front-is-chunk w (and-left _ _ h) .counted
 
--- an accepted call leaves a slice that reads as the entries it is to have
-pub written-reads : (n : ℕ) (es : List Entry) (out : List ℕ) → n ≡ 0 → rising es ≡ true → length es ≤ limit → entries (written n es out) ≡ es
+-- an accepted call leaves a slice that says the entries it is to have
+pub written-says : (n : ℕ) (es : List Entry) (out : List ℕ) → n ≡ 0 → rising es ≡ true → length es ≤ limit → Says es (written n es out)
 unfolding written
-written-reads zero es out e r l = chunk-says es (drop (length (chunkOf es)) out) r l .read
-written-reads (suc n) es out e r l = absurd (omega arith)
+written-says zero es out e r l = chunk-says es (drop (length (chunkOf es)) out) r l
+written-says (suc n) es out e r l = absurd (omega arith)
 
--- an accepted call leaves a slice that says what it is to say
+-- and one that may be held where they are clean
 pub written-holds : (n : ℕ) (es : List Entry) (out : List ℕ) → n ≡ 0 → Clean es → Holds es (written n es out)
-unfolding written
-written-holds zero es out e c =
-    let w : List ℕ = over (chunkOf es) out in
-    let s : Says es w = chunk-says es (drop (length (chunkOf es)) out) (c .rise) (c .small) in
+written-holds n es out e c =
+    let s : Says es (written n es out) = written-says n es out e (c .rise) (c .small) in
     record {
       sounds = and-both _ _ (s .formed)
-          (and-both _ _ (settled-stands w (s .formed) ∙ rw (s .read) (c .stand)) (rw (s .read) (c .fit)));
+          (and-both _ _ (settled-stands (written n es out) (s .formed) ∙ rw (s .read) (c .stand)) (rw (s .read) (c .fit)));
       reads = s .read;
     }
-written-holds (suc n) es out e c = absurd (omega arith)

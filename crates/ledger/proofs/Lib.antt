@@ -7,8 +7,10 @@ pub mod Fitting
 pub mod Rows
 pub mod Ordered
 pub mod Tests
+pub mod Merging
 pub mod Refusals
 pub mod Settles
+pub mod Outcomes
 pub mod Steps
 pub mod Ledger
 pub mod Yard

@@ -3,12 +3,14 @@ use Prim.Native.Nat.{ℕ}
 use mathlib.Core.Path.{_≡_, refl, sym, _∙_}
 use mathlib.Core.Logic.{inl, inr}
 use mathlib.Core.Bool.{Bool, true, false, not}
-use mathlib.Core.List.{List, [], _∷_}
+use mathlib.Core.List.{List, [], _∷_, _++_}
 use lib.Dec.{eqb}
 use borrow.Author.Tests.{eqb-false, not-true}
 use Rattle.chunk.specs.Entry.{every}
 use Rattle.chunk.specs.Refusal.{Test, first}
 use Rattle.laws.proofs.Tests.{by-test, and-left, and-right}
+use Rattle.whole.specs.Whole.{andThen}
+use Rattle.whole.proofs.Parts.{ends}
 use Rattle.ledger.specs.Refusals.{Row, Given, NoneHolds, GoesBy}
 
 -- none of the tests holds
@@ -37,6 +39,21 @@ passed (t ∷ ts) n h =
     (λ f. absurd (not-zero t ts n (simp f at h)))
     (λ f. (f, passed ts (numbered-rest t ts n) (simp f at h)))
 
+-- tests after others: the first that holds of those, else of these
+pub first-append : (ts us : List Test) → numbered ts ≡ true → first (ts ++ us) ≡ andThen (first ts) (first us)
+unfolding first
+first-append [] us n = refl
+first-append (t ∷ ts) us n =
+    by-test (t .fails)
+    (λ f. simp f (sym (ends (t .number) (first us) (not-zero t ts n))))
+    (λ f. simp f (first-append ts us (numbered-rest t ts n)))
+
+-- where none of the tests before holds
+pub passes : (ts us : List Test) → Passed ts → first (ts ++ us) ≡ first us
+unfolding first
+passes [] us p = refl
+passes (t ∷ ts) us p = simp (p .0) (passes ts us (p .1))
+
 -- ---- tests that decide rows
 
 -- a test holds exactly where a row does
@@ -51,6 +68,13 @@ Decide [] [] = Unit {0}
 Decide [] (r ∷ rs) = ⊥
 Decide (t ∷ ts) [] = ⊥
 Decide (t ∷ ts) (r ∷ rs) = Decides t r × (t .fails ≡ false → Decide ts rs)
+
+-- tests after others
+pub decide-append : (ts us : List Test) (rs qs : List Row) → Decide ts rs → Decide us qs → Decide (ts ++ us) (rs ++ qs)
+decide-append [] us [] qs d e = e
+decide-append [] us (r ∷ rs) qs d e = absurd d
+decide-append (t ∷ ts) us [] qs d e = absurd d
+decide-append (t ∷ ts) us (r ∷ rs) qs d e = (d .0, λ f. decide-append ts us rs qs (d .1 f) e)
 
 given : (ts : List Test) (rs : List Row) → Decide ts rs → (n : ℕ) → (n ≡ 0 → ⊥) → first ts ≡ n → Given n rs
 unfolding first

@@ -23,12 +23,14 @@ use Rattle.retain.specs.Frontier.{most, sound, ordered}
 use Rattle.retain.specs.Cut.{filterNumber, splitNumber}
 use Rattle.retain.specs.Extract.{extractNumber}
 use Rattle.meld.specs.Meld.{follows, meldNumber}
+use Rattle.whole.specs.Whole.{wholeNumber}
 use Rattle.laws.proofs.OneChunk.{front-is-chunk}
 use Rattle.laws.proofs.Tests.{by-test, and-left, and-right, and-both, true-not-false}
-use Rattle.ledger.specs.Refusals.{row, GoesBy, notSettled, isEmpty, badCursor, badFrontier, nth, falling, outOfRange, notPast, overflowing, formRows, unsortedRows, mergeRows, surveyRows, filterRows, suffixRows, splitRows, extractRows, meldRows, checkRows}
-use Rattle.ledger.proofs.Ordered.{Decides, goes-by}
+use Rattle.ledger.specs.Refusals.{row, GoesBy, notSettled, isEmpty, badCursor, badFrontier, nth, falling, outOfRange, notPast, overflowing, formRows, unsortedRows, mergeRows, laterRows, wholeRows, surveyRows, filterRows, suffixRows, splitRows, extractRows, meldRows, checkRows}
+use Rattle.ledger.proofs.Ordered.{Decides, Decide, decide-append, goes-by}
 use Rattle.ledger.proofs.Rows.{falls-there, no-fall, outside-there, none-outside, behind-there, none-behind, overflow-there, no-overflow}
 use Rattle.ledger.proofs.Tests.{formTests, form-first, unsortedTests, unsorted-first, mergeTests, merge-first, surveyTests, survey-first, filterTests, filter-first, suffixTests, suffix-first, splitTests, split-first, extractTests, extract-first, meldTests, meld-first}
+use Rattle.ledger.proofs.Merging.{laterTests, wholeTests, whole-first}
 
 -- ---- tests and their rows
 
@@ -112,9 +114,8 @@ unfolding every
 unsorted-refuses us out = rw unsorted-first (goes-by (unsortedTests us out) (unsortedRows us out) refl
     (unequal 1 _ _, λ _. (less 2 _ _, λ _. (range-row us, λ _. (less 13 _ _, λ _. tt)))))
 
-pub merge-refuses : (a b scratch out : List ℕ) → GoesBy (mergeRows a b scratch out) (mergeNumber a b scratch out)
-unfolding every
-merge-refuses a b scratch out = rw merge-first (goes-by (mergeTests a b scratch out) (mergeRows a b scratch out) refl (
+merge-decides : (a b scratch out : List ℕ) → Decide (mergeTests a b scratch out) (mergeRows a b scratch out)
+merge-decides a b scratch out = (
   negated 5 _,
   λ f. (
     unsettled-row a f,
@@ -133,7 +134,20 @@ merge-refuses a b scratch out = rw merge-first (goes-by (mergeTests a b scratch 
       ),
     ),
   ),
-))
+)
+
+pub merge-refuses : (a b scratch out : List ℕ) → GoesBy (mergeRows a b scratch out) (mergeNumber a b scratch out)
+unfolding every
+merge-refuses a b scratch out = rw merge-first (goes-by (mergeTests a b scratch out) (mergeRows a b scratch out) refl (merge-decides a b scratch out))
+
+-- past an accepted merge there is 13 alone: what it wrote is well formed, and its survivor's cursor is sound
+pub whole-refuses : (a b scratch out clean rest : List ℕ) → GoesBy (wholeRows a b scratch out clean rest) (wholeNumber a b scratch out clean rest)
+unfolding every
+whole-refuses a b scratch out clean rest =
+    let later : Decide (laterTests a b scratch out clean rest) (laterRows a b scratch out clean rest) = (less 13 _ _, λ _. (less 13 _ _, λ _. tt)) in
+    rw whole-first (goes-by (wholeTests a b scratch out clean rest) (wholeRows a b scratch out clean rest) refl
+    (decide-append (mergeTests a b scratch out) (laterTests a b scratch out clean rest) (mergeRows a b scratch out) (laterRows a b scratch out clean rest)
+    (merge-decides a b scratch out) later))
 
 pub survey-refuses : (a b : List ℕ) (lent : ℕ) → GoesBy (surveyRows a b lent) (surveyNumber a b lent)
 unfolding every

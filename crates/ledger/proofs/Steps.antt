@@ -8,16 +8,18 @@ use lib.Dec.{eqb}
 use borrow.Author.Tests.{ltb-true, ltb-false, not-true, not-false}
 use lib.ListN.{length, take, drop}
 use lib.IntN.{_+ℤ_, +ℤ-comm, +ℤ-idr}
-use Rattle.chunk.specs.Entry.{Entry, stands, rising, every, keep}
+use Rattle.chunk.specs.Entry.{Entry, stands, every, keep}
 use Rattle.chunk.specs.Words.{entries, nt, limit}
 use Rattle.chunk.specs.Sums.{total}
 use Rattle.sort.specs.Sort.{updates, sort}
 use Rattle.form.specs.Form.{formed, falls, inRange, formNumber, formOut, unsortedNumber, unsortedOut}
-use Rattle.merge.specs.Merge.{merged, Survives, nobody, theFirst, theSecond, survivor, mergeNumber, mergeOut, suffixNumber, suffixOut}
+use Rattle.merge.specs.Merge.{merged, Place, Survives, nobody, theFirst, theSecond, mergeOut, suffixNumber, suffixOut}
 use Rattle.retain.specs.Frontier.{isOpen}
 use Rattle.retain.specs.Cut.{filterNumber, filterOut, splitNumber, splitFirst, splitRest}
 use Rattle.retain.specs.Extract.{extractNumber, keptOf, shippedOf, keptOut, shippedOut}
 use Rattle.meld.specs.Meld.{meldNumber, meldOut}
+use Rattle.whole.specs.Whole.{survives, wholeNumber, restNumber, restOut, cleanOut, leftOut}
+use Rattle.whole.proofs.Parts.{Accepted, whole-accepted}
 use Rattle.laws.specs.OneChunk.{isWord, fits}
 use Rattle.laws.proofs.Tests.{and-left, and-right, and-both}
 use Rattle.laws.proofs.Order.{keep-rising}
@@ -27,11 +29,12 @@ use Rattle.form.proofs.Formed.{formed-rises, formed-stands, formed-length, form
 use Rattle.merge.specs.Theorems.{leftOf}
 use Rattle.merge.proofs.Merged.{merged-rises, merged-short, totals-kept}
 use Rattle.retain.proofs.Records.{total-append, total-cut, total-keep, total-filtered, keep-every, keep-passes}
-use Rattle.ledger.specs.Ledger.{State, Call, form, formUnsorted, split, extract, meld, merge, start, at, without, withoutTwo, holds, holdsTwo, accepted, swap, restNumber, restOut, mergedState, after, run, heldTotal, callFits}
+use Rattle.ledger.specs.Ledger.{State, Call, form, formUnsorted, split, extract, meld, merge, start, at, without, withoutTwo, holds, holdsTwo, accepted, swap, restHeld, mergedState, after, run, heldTotal, callFits}
 use Rattle.ledger.proofs.Ordered.{Passed, passed}
-use Rattle.ledger.proofs.Tests.{formTests, form-first, unsortedTests, unsorted-first, mergeTests, merge-first, meldTests, meld-first}
+use Rattle.ledger.proofs.Tests.{formTests, form-first, unsortedTests, unsorted-first, meldTests, meld-first}
 use Rattle.ledger.proofs.Lists.{every-append, every-getD, length-keep}
-use Rattle.ledger.proofs.Clean.{Clean, clean-take, clean-drop, clean-keep, clean-append, sound, Holds, clean-of, counted-of, written-reads, written-holds}
+use Rattle.ledger.proofs.Clean.{Clean, clean-take, clean-drop, clean-keep, clean-append, sound, Holds, clean-of, counted-of, written-holds}
+use Rattle.ledger.proofs.Merging.{merge-passed, merge-few, merge-says}
 use Rattle.ledger.proofs.Held.{every-without, every-without-two, held-append, held-without, held-without-two}
 use Rattle.ledger.proofs.Sorting.{sort-total}
 use Rattle.ledger.proofs.Fitting.{formed-fits, merged-fits}
@@ -132,10 +135,6 @@ meld-passed : (a b out : List ℕ) → meldNumber a b out ≡ 0 → Passed (meld
 unfolding every
 meld-passed a b out h = passed (meldTests a b out) refl (rw meld-first at h)
 
-merge-passed : (a b scratch out : List ℕ) → mergeNumber a b scratch out ≡ 0 → Passed (mergeTests a b scratch out)
-unfolding every
-merge-passed a b scratch out h = passed (mergeTests a b scratch out) refl (rw merge-first at h)
-
 -- ---- the calls
 
 form-inv : (s : State) (us out : List ℕ) → Inv s → every isWord us ≡ true → Inv (after s (form us out))
@@ -205,19 +204,25 @@ meld-inv s i j out c =
     exchange-two s i j (meldOut (at s i) (at s j) out ∷ []) c h (every-one _ _ a)
     (λ k v t. held-one k v t _ _ a ∙ total-append k v t es fs)
 
+-- a suffix, where it is accepted
+suffix-holds : (p : Place) (w rest : List ℕ) → sound w ≡ true → suffixNumber p w rest ≡ 0 → Holds (drop (p .t) (entries w)) (suffixOut p w rest)
+unfolding suffixOut
+suffix-holds p w rest h z = written-holds (suffixNumber p w rest) (drop (p .t) (entries w)) rest z (clean-drop (p .t) (entries w) (clean-of w h))
+
 -- the survivor's suffix, where it is accepted
-rest-sounds : (who : Survives) (a b rest : List ℕ) → sound a ≡ true → sound b ≡ true → restNumber who a b rest ≡ 0 → every sound (restOut who a b rest) ≡ true
+rest-sounds : (who : Survives) (a b rest : List ℕ) → sound a ≡ true → sound b ≡ true → restNumber who a b rest ≡ 0
+    → every sound (restHeld who (restOut who a b rest)) ≡ true
 unfolding restNumber restOut suffixOut every
 rest-sounds nobody a b rest ha hb z = refl
-rest-sounds (theFirst p) a b rest ha hb z = every-one _ _ (written-holds (suffixNumber p a rest) (drop (p .t) (entries a)) rest z (clean-drop (p .t) (entries a) (clean-of a ha)))
-rest-sounds (theSecond p) a b rest ha hb z = every-one _ _ (written-holds (suffixNumber p b rest) (drop (p .t) (entries b)) rest z (clean-drop (p .t) (entries b) (clean-of b hb)))
+rest-sounds (theFirst p) a b rest ha hb z = every-one _ _ (suffix-holds p a rest ha z)
+rest-sounds (theSecond p) a b rest ha hb z = every-one _ _ (suffix-holds p b rest hb z)
 
 rest-says : (k v t : ℕ) (who : Survives) (a b rest : List ℕ) → sound a ≡ true → sound b ≡ true → restNumber who a b rest ≡ 0
-    → heldTotal k v t (restOut who a b rest) ≡ total k v t (leftOf (entries a) (entries b) who)
+    → heldTotal k v t (restHeld who (restOut who a b rest)) ≡ total k v t (leftOf (entries a) (entries b) who)
 unfolding restNumber restOut suffixOut heldTotal
 rest-says k v t nobody a b rest ha hb z = refl
-rest-says k v t (theFirst p) a b rest ha hb z = held-one k v t _ _ (written-holds (suffixNumber p a rest) (drop (p .t) (entries a)) rest z (clean-drop (p .t) (entries a) (clean-of a ha)))
-rest-says k v t (theSecond p) a b rest ha hb z = held-one k v t _ _ (written-holds (suffixNumber p b rest) (drop (p .t) (entries b)) rest z (clean-drop (p .t) (entries b) (clean-of b hb)))
+rest-says k v t (theFirst p) a b rest ha hb z = held-one k v t _ _ (suffix-holds p a rest ha z)
+rest-says k v t (theSecond p) a b rest ha hb z = held-one k v t _ _ (suffix-holds p b rest hb z)
 
 -- a merge filtered
 clean-merged : (a b : List ℕ) → sound a ≡ true → sound b ≡ true → nt a + nt b ≤ limit → Clean (keep stands (merged (entries a) (entries b)))
@@ -232,14 +237,6 @@ clean-merged a b ha hb few =
       small = omega (arith, length-keep stands m, merged-short (entries a) (entries b), counted-of a ha, counted-of b hb);
     }
 
-merged-few : (a b : List ℕ) → sound a ≡ true → sound b ≡ true → nt a + nt b ≤ limit → length (merged (entries a) (entries b)) ≤ limit
-merged-few a b ha hb few = omega (arith, merged-short (entries a) (entries b), counted-of a ha, counted-of b hb)
-
-merge-reads : (a b scratch out : List ℕ) → mergeNumber a b scratch out ≡ 0 → rising (entries a) ≡ true → rising (entries b) ≡ true → length (merged (entries a) (entries b)) ≤ limit
-    → entries (mergeOut a b scratch out) ≡ merged (entries a) (entries b)
-unfolding mergeOut
-merge-reads a b scratch out z r q l = written-reads (mergeNumber a b scratch out) (merged (entries a) (entries b)) out z (merged-rises (entries a) (entries b) r q) l
-
 -- a slice filtered holds what stands of its entries
 filter-holds : (w out : List ℕ) (es : List Entry) → filterNumber w out ≡ 0 → entries w ≡ es → Clean (keep stands es) → Holds (keep stands es) (filterOut w out)
 unfolding filterOut
@@ -252,24 +249,23 @@ merge-inv s i j scratch out clean rest c =
     let b : List ℕ = at s j in
     let es : List Entry = entries a in
     let fs : List Entry = entries b in
-    let m : List ℕ = mergeOut a b scratch out in
-    let who : Survives = survivor es fs in
+    let who : Survives = survives a b in
+    let one : List ℕ = cleanOut a b scratch out clean in
+    let left : List (List ℕ) = restHeld who (leftOut a b scratch out clean rest) in
     when-inv (holdsTwo s i j) _ s c λ h.
-    accepted-inv (mergeNumber a b scratch out) _ s c λ z.
-    accepted-inv (filterNumber m clean) _ s c λ y.
-    accepted-inv (restNumber who a b rest) _ s c λ x.
-    let p : Passed (mergeTests a b scratch out) = merge-passed a b scratch out z in
+    accepted-inv (wholeNumber a b scratch out clean rest) _ s c λ z.
+    let q : Accepted a b scratch out clean rest = whole-accepted a b scratch out clean rest z in
     let ha : sound a ≡ true = sound-at s i c (and-left (holds s i) (holds s j && not (eqb i j)) h) in
     let hb : sound b ≡ true = sound-at s j c (and-left (holds s j) (not (eqb i j)) (and-right (holds s i) _ h)) in
-    let few : nt a + nt b ≤ limit = ltb-false limit (nt a + nt b) (p .1 .1 .1 .1 .1 .1 .0) in
-    let reads : entries m ≡ merged es fs = merge-reads a b scratch out z (clean-of a ha .rise) (clean-of b hb .rise) (merged-few a b ha hb few) in
-    let says : Holds (keep stands (merged es fs)) (filterOut m clean) =
-    filter-holds m clean (merged es fs) y reads (clean-merged a b ha hb few) in
-    exchange-two s i j (filterOut m clean ∷ restOut who a b rest) c h
-    (every-append sound (filterOut m clean ∷ []) (restOut who a b rest) (every-one _ _ says) (rest-sounds who a b rest ha hb x))
-    (λ k v t. held-append k v t (filterOut m clean ∷ []) (restOut who a b rest)
-    ∙ ap₂ _+ℤ_ (held-one k v t _ _ says ∙ total-filtered k v t (merged es fs)) (rest-says k v t who a b rest ha hb x)
-    ∙ totals-kept es fs (clean-of a ha .rise) (clean-of b hb .rise) (p .1 .1 .1 .1 .1 .1 .1 .1 .1 .0) k v t)
+    let says : Holds (keep stands (merged es fs)) one =
+    rw (q .cleaned) (filter-holds (mergeOut a b scratch out) clean (merged es fs) (q .filter) (merge-says a b scratch out (q .merge) .read) (clean-merged a b ha hb (merge-few a b scratch out (q .merge)))) in
+    let sounds : every sound left ≡ true = rw (q .left) (rest-sounds who a b rest ha hb (q .suffix)) in
+    let leaves : (k v t : ℕ) → heldTotal k v t left ≡ total k v t (leftOf es fs who) = λ k v t. rw (q .left) (rest-says k v t who a b rest ha hb (q .suffix)) in
+    exchange-two s i j (one ∷ left) c h
+    (every-append sound (one ∷ []) left (every-one _ _ says) sounds)
+    (λ k v t. held-append k v t (one ∷ []) left
+    ∙ ap₂ _+ℤ_ (held-one k v t _ _ says ∙ total-filtered k v t (merged es fs)) (leaves k v t)
+    ∙ totals-kept es fs (clean-of a ha .rise) (clean-of b hb .rise) (merge-passed a b scratch out (q .merge) .1 .1 .1 .1 .1 .1 .1 .1 .1 .0) k v t)
 
 -- ---- any calls
 

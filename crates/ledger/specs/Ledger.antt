@@ -14,10 +14,11 @@ use Rattle.chunk.specs.Sums.{total}
 use Rattle.laws.specs.OneChunk.{isWord, fits}
 use Rattle.sort.specs.Sort.{updates}
 use Rattle.form.specs.Form.{formNumber, formOut, unsortedNumber, unsortedOut}
-use Rattle.merge.specs.Merge.{Survives, nobody, theFirst, theSecond, survivor, mergeNumber, mergeOut, suffixNumber, suffixOut}
-use Rattle.retain.specs.Cut.{filterNumber, filterOut, splitNumber, splitFirst, splitRest}
+use Rattle.merge.specs.Merge.{Survives, nobody, theFirst, theSecond}
+use Rattle.retain.specs.Cut.{splitNumber, splitFirst, splitRest}
 use Rattle.retain.specs.Extract.{extractNumber, keptOut, shippedOut}
 use Rattle.meld.specs.Meld.{meldNumber, meldOut}
+use Rattle.whole.specs.Whole.{survives, wholeNumber, cleanOut, leftOut}
 
 -- the slices that hold a chunk, and every update that an accepted form took in
 pub record State : Type 0 where
@@ -66,30 +67,19 @@ accepted (suc n) new s = s
 abbrev pub swap : State → List (List ℕ) → List (List ℕ) → State
 swap s left new = record { held = left ++ new; taken = s .taken }
 
--- the survivor's suffix: its number
-unfoldable pub restNumber : Survives → List ℕ → List ℕ → List ℕ → ℕ
-restNumber nobody a b out = 0
-restNumber (theFirst p) a b out = suffixNumber p a out
-restNumber (theSecond p) a b out = suffixNumber p b out
-
--- and what it hands back
-unfoldable pub restOut : Survives → List ℕ → List ℕ → List ℕ → List (List ℕ)
-restOut nobody a b out = []
-restOut (theFirst p) a b out = suffixOut p a out ∷ []
-restOut (theSecond p) a b out = suffixOut p b out ∷ []
+-- the survivor's suffix is held where somebody survives
+abbrev pub restHeld : Survives → List ℕ → List (List ℕ)
+restHeld nobody rest = []
+restHeld (theFirst p) rest = rest ∷ []
+restHeld (theSecond p) rest = rest ∷ []
 
 -- merge with its zero filter and the survivor's suffix, one call, refused if any of them is
 unfoldable pub mergedState : State → ℕ → ℕ → List ℕ → List ℕ → List ℕ → List ℕ → State
-unfolding restNumber restOut
 mergedState s i j scratch out clean rest =
     let a : List ℕ = at s i in
     let b : List ℕ = at s j in
-    let m : List ℕ = mergeOut a b scratch out in
-    let who : Survives = survivor (entries a) (entries b) in
-    accepted (mergeNumber a b scratch out)
-    (accepted (filterNumber m clean)
-    (accepted (restNumber who a b rest)
-    (swap s (withoutTwo i j (s .held)) (filterOut m clean ∷ restOut who a b rest)) s) s) s
+    accepted (wholeNumber a b scratch out clean rest)
+    (swap s (withoutTwo i j (s .held)) (cleanOut a b scratch out clean ∷ restHeld (survives a b) (leftOut a b scratch out clean rest))) s
 
 -- what a call does; one that names what is not held, or one chunk twice, is no call of demand 3
 unfoldable pub after : State → Call → State

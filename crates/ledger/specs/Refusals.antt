@@ -3,16 +3,17 @@ use Prim.Native.Nat.{ℕ, suc, _<_, _≤_, _+_, _*_, _-_, _/_, _%_, _^_}
 use mathlib.Core.Path.{_≡_}
 use mathlib.Core.Logic.{_↔_, _⊎_}
 use mathlib.Core.Bool.{true, false}
-use mathlib.Core.List.{List, [], _∷_}
+use mathlib.Core.List.{List, [], _∷_, _++_}
 use lib.ListN.{length, take, getD}
 use lib.IntN.{pos, negsuc, _+ℤ_}
 use lib.Signed.{mag, ltZ}
 use Rattle.chunk.specs.Entry.{Entry, change, before, same}
 use Rattle.chunk.specs.Words.{entries, size, nk, nv, nt, limit, wellFormed, settled}
 use Rattle.sort.specs.Sort.{updates}
-use Rattle.merge.specs.Merge.{Place, placeAt, lastOf}
+use Rattle.merge.specs.Merge.{Place, placeAt, lastOf, Survives, nobody, theFirst, theSecond, mergeOut}
 use Rattle.retain.specs.Frontier.{most, ordered}
 use Rattle.retain.specs.Extract.{frontierOf}
+use Rattle.whole.specs.Whole.{survives}
 
 -- a row of the table: its number, and when it is given
 pub record Row : Type 1 where
@@ -157,6 +158,20 @@ mergeRows a b scratch out =
     notFormed a ∷ notSettled a ∷ isEmpty a
     ∷ notFormed b ∷ notSettled b ∷ isEmpty b
     ∷ manyTimes a b ∷ shortScratch a b scratch ∷ shortOut (size a + size b - 4) out ∷ overflowing a b ∷ []
+
+-- the room that the survivor's suffix asks: the size of the input that survives, and none where nobody does
+abbrev pub restRoom : Survives → List ℕ → List ℕ → ℕ
+restRoom nobody a b = 0
+restRoom (theFirst p) a b = size a
+restRoom (theSecond p) a b = size b
+
+-- past an accepted merge: 13 for the filter of what it wrote, 13 for the survivor's suffix
+abbrev pub laterRows : List ℕ → List ℕ → List ℕ → List ℕ → List ℕ → List ℕ → List Row
+laterRows a b scratch out clean rest = shortOut (size (mergeOut a b scratch out)) clean ∷ shortOut (restRoom (survives a b) a b) rest ∷ []
+
+-- merge with its filter and the survivor's suffix: the merge's, then these
+abbrev pub wholeRows : List ℕ → List ℕ → List ℕ → List ℕ → List ℕ → List ℕ → List Row
+wholeRows a b scratch out clean rest = mergeRows a b scratch out ++ laterRows a b scratch out clean rest
 
 -- survey 5, 6, 7 for each, then 12
 abbrev pub surveyRows : List ℕ → List ℕ → ℕ → List Row

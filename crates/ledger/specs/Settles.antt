@@ -1,7 +1,7 @@
 -- "For any call, two outcomes that its promise allows are shown equal", and "no answer may depend on what scratch held" (document 01,
 -- "What the promises have to settle"). An outcome is the answer and every slice lent to write to, as it stands afterwards; what a promise
 -- allows is what the public function ensures. Each statement is a type here, and a theorem of proofs/Settles.antt.
-use Prim.Native.Nat.{ℕ, zero, suc}
+use Prim.Native.Nat.{ℕ}
 use mathlib.Core.Path.{_≡_}
 use mathlib.Core.Bool.{Bool}
 use mathlib.Core.List.{List}
@@ -11,16 +11,36 @@ use Rattle.chunk.specs.declared.Contents.{Contents}
 use Rattle.chunk.specs.declared.Range.{Range}
 use Rattle.chunk.specs.Time.{earlier, atOrBelow}
 use Rattle.chunk.specs.Contents.{contentsOf, layoutWithin, withTable, childRange}
-use Rattle.chunk.specs.Words.{entries}
 use Rattle.chunk.specs.Check.{checkedOf}
 use Rattle.sort.specs.Sort.{sortedWords}
 use Rattle.form.specs.Form.{FormAnswers, UnsortedAnswers}
-use Rattle.merge.specs.Merge.{Place, Survives, nobody, survivor, mergeNumber, mergeOut, suffixNumber, suffixOut}
+use Rattle.merge.specs.declared.Joined.{Joined}
+use Rattle.merge.specs.Merge.{Place, mergeNumber, suffixNumber, suffixOut}
+use Rattle.merge.specs.Outcome.{Refused, MergeAnswers}
+use Rattle.merge.specs.Run.{runOf}
 use Rattle.retain.specs.Cut.{filterNumber, filterOut, Split}
 use Rattle.retain.specs.declared.Extracted.{Extracted}
+use Rattle.retain.specs.declared.Frontier.{Frontier}
+use Rattle.retain.specs.Found.{emptyFrontier}
 use Rattle.retain.specs.Answer.{Extraction}
 use Rattle.meld.specs.Copy.{copied, shiftedAll}
 use Rattle.meld.specs.Meld.{Melded}
+use Rattle.whole.specs.Whole.{WholeAnswers}
+use Rattle.walk.specs.declared.Walker.{Walker}
+use Rattle.walk.specs.declared.Started.{Started}
+use Rattle.walk.specs.declared.Stepped.{Stepped}
+use Rattle.walk.specs.Walk.{step}
+use Rattle.walk.specs.Answer.{placeOf, startedOf, steppedBy}
+use Rattle.walker.specs.declared.Taken.{Taken}
+use Rattle.walker.specs.declared.Advanced.{Advanced}
+use Rattle.walker.specs.declared.Begun.{Begun}
+use Rattle.walker.specs.Lent.{steppedFrom, takenOf, walkerAfter, advancedTo, walkerFrom, begunAt}
+use Rattle.survey.specs.declared.Report.{Report}
+use Rattle.survey.specs.declared.Spot.{Spot}
+use Rattle.survey.specs.declared.Next.{Next}
+use Rattle.survey.specs.declared.Surveyed.{Surveyed}
+use Rattle.survey.specs.declared.Listed.{Listed}
+use Rattle.survey.specs.Reports.{nextOf, surveyedOf, filledOf, listedOf}
 
 -- two outcomes that a promise allows are equal
 abbrev pub Settled : {A : Type 0} → (A → Type 0) → Type 0
@@ -33,6 +53,10 @@ One A = A × List ℕ
 -- an answer and two slices
 abbrev pub Two : Type 0 → Type 0
 Two A = A × List ℕ × List ℕ
+
+-- an answer and three slices
+abbrev pub Three : Type 0 → Type 0
+Three A = A × List ℕ × List ℕ × List ℕ
 
 -- ---- the calls
 
@@ -107,47 +131,95 @@ CopySettles = (dst src : List ℕ) → Settled (λ (o : List ℕ). o ≡ copied 
 abbrev pub ShiftSettles : Type 0
 ShiftSettles = (by : ℕ) (dst ends : List ℕ) → Settled (λ (o : List ℕ). o ≡ copied dst (shiftedAll by ends))
 
+-- Frontier::new
+abbrev pub FrontierSettles : Type 0
+FrontierSettles = Settled (λ (o : Frontier). o ≡ emptyFrontier)
+
+-- run_of writes to nothing: its answer is a part of an input
+abbrev pub RunSettles : Type 0
+RunSettles = (kind low high : ℕ) (first second : List ℕ) → Settled (λ (o : List ℕ). o ≡ runOf kind low high first second)
+
+-- ---- walk and walker
+
+-- walk_start
+abbrev pub StartSettles : Type 0
+StartSettles = (w : List ℕ) → Settled (λ (o : Started). o ≡ startedOf w)
+
+-- walk_step
+abbrev pub StepSettles : Type 0
+StepSettles = (words : List ℕ) (w : Walker) → Settled (λ (o : Stepped). o ≡ steppedBy (step words (placeOf w)))
+
+-- advance, and step_lent
+abbrev pub AdvanceSettles : Type 0
+AdvanceSettles = (words : List ℕ) (w : Walker) → Settled (λ (o : Advanced). o ≡ advancedTo w (steppedFrom words w))
+
+-- begin
+abbrev pub BeginSettles : Type 0
+BeginSettles = (words : List ℕ) (w : Walker) → Settled (λ (o : Begun). o ≡ begunAt w (startedOf words))
+
+-- step_in_place, with the walker afterwards
+abbrev pub StepInPlaceSettles : Type 0
+StepInPlaceSettles =
+    (words : List ℕ) (w : Walker)
+    → Settled (λ (o : Taken × Walker). (o .0 ≡ takenOf (steppedFrom words w)) × (o .1 ≡ walkerAfter w (steppedFrom words w)))
+
+-- start_in_place, with the walker afterwards
+abbrev pub StartInPlaceSettles : Type 0
+StartInPlaceSettles =
+    (words : List ℕ) (w : Walker)
+    → Settled (λ (o : ℕ × Walker). (o .0 ≡ startedOf words .number) × (o .1 ≡ walkerFrom w (startedOf words)))
+
+-- ---- survey
+
+-- next_report
+abbrev pub NextSettles : Type 0
+NextSettles = (a b : List ℕ) (spot : Spot) → Settled (λ (o : Next). o ≡ nextOf a b spot)
+
+-- plan
+abbrev pub PlanSettles : Type 0
+PlanSettles = (a b : List ℕ) (lent : ℕ) → Settled (λ (o : Surveyed). o ≡ surveyedOf a b lent)
+
+-- survey, with every lent report afterwards
+abbrev pub SurveySettles : Type 0
+SurveySettles =
+    (a b : List ℕ) (lent : List Report)
+    → Settled (λ (o : Surveyed × List Report). (o .0 ≡ surveyedOf a b (length lent)) × (o .1 ≡ filledOf a b lent))
+
+-- survey_listed
+abbrev pub ListedSettles : Type 0
+ListedSettles = (a b : List ℕ) → Settled (λ (o : Listed). o ≡ listedOf a b)
+
 -- ---- merge, whose scratch the promise leaves open after acceptance or 14
 
--- what a field says where the call is accepted, and what it is where the call is refused: zero
-abbrev pub unless : {A : Type 0} → ℕ → A → A → A
-unless zero said none = said
-unless (suc n) said none = none
+-- two outcomes are equal in all but the scratch, and in the scratch too where the merge's number does not leave it open
+pub record Once (n : ℕ) {A : Type 0} (o q : A) (used other : List ℕ) : Type 0 where
+  pub same : o ≡ q
+  pub untouched : Refused n → used ≡ other
 
--- what merge answers: its number, and who survives
-pub record Joined : Type 0 where
-  pub number : ℕ
-  pub survives : Survives
-
--- refused, nobody does
-abbrev pub mergeAnswer : List ℕ → List ℕ → List ℕ → List ℕ → Joined
-mergeAnswer a b scratch out =
-    let n : ℕ = mergeNumber a b scratch out in record { number = n; survives = unless n (survivor (entries a) (entries b)) nobody }
-
--- a refusal other than 14
-pub record Refused (n : ℕ) : Type 0 where
-  pub not-accepted : n ≡ 0 → ⊥
-  pub not-overflow : n ≡ 14 → ⊥
-
--- the answer and the output; and the scratch afterwards, which a refusal other than 14 leaves as it was
-pub record MergeAnswers (a b scratch out : List ℕ) (answer : Joined) (after left : List ℕ) : Type 0 where
-  pub answers : answer ≡ mergeAnswer a b scratch out
-  pub written : after ≡ mergeOut a b scratch out
-  pub untouched : Refused (mergeNumber a b scratch out) → left ≡ scratch
-
--- two outcomes of one merge are equal in the answer and the output, and in the scratch too where that is not left open
-pub record MergeOnce (a b scratch out : List ℕ) (o q : Two Joined) : Type 0 where
-  pub same : _≡_ {A = One Joined} (o .0, o .1) (q .0, q .1)
-  pub untouched : Refused (mergeNumber a b scratch out) → o .2 ≡ q .2
-
--- merge_pair
+-- merge_pair: its answer and its output
 abbrev pub MergeSettles : Type 0
 MergeSettles =
-    (a b scratch out : List ℕ) (o q : Two Joined)
-    → MergeAnswers a b scratch out (o .0) (o .1) (o .2) → MergeAnswers a b scratch out (q .0) (q .1) (q .2) → MergeOnce a b scratch out o q
+    (a b scratch out : List ℕ) (o q : One Joined) (used other : List ℕ)
+    → MergeAnswers a b scratch out (o .0) (o .1) used → MergeAnswers a b scratch out (q .0) (q .1) other
+    → Once (mergeNumber a b scratch out) o q used other
+
+-- merge_whole: its answer and its three outputs
+abbrev pub WholeSettles : Type 0
+WholeSettles =
+    (a b scratch out clean rest : List ℕ) (o q : Three Joined) (used other : List ℕ)
+    → WholeAnswers a b scratch out clean rest (o .0) (o .1) (o .2) (o .3) used
+    → WholeAnswers a b scratch out clean rest (q .0) (q .1) (q .2) (q .3) other
+    → Once (mergeNumber a b scratch out) o q used other
 
 -- whatever two scratches of one length held, the answer and the output are equal
 abbrev pub ScratchIdle : Type 0
 ScratchIdle =
-    (a b one two out : List ℕ) → length one ≡ length two → (o q : Two Joined)
-    → MergeAnswers a b one out (o .0) (o .1) (o .2) → MergeAnswers a b two out (q .0) (q .1) (q .2) → _≡_ {A = One Joined} (o .0, o .1) (q .0, q .1)
+    (a b first second out : List ℕ) → length first ≡ length second → (o q : One Joined) (used other : List ℕ)
+    → MergeAnswers a b first out (o .0) (o .1) used → MergeAnswers a b second out (q .0) (q .1) other → o ≡ q
+
+-- and so the answer and the three outputs of merge_whole
+abbrev pub WholeScratchIdle : Type 0
+WholeScratchIdle =
+    (a b first second out clean rest : List ℕ) → length first ≡ length second → (o q : Three Joined) (used other : List ℕ)
+    → WholeAnswers a b first out clean rest (o .0) (o .1) (o .2) (o .3) used
+    → WholeAnswers a b second out clean rest (q .0) (q .1) (q .2) (q .3) other → o ≡ q

@@ -1,0 +1,13 @@
+-- `whole::refused` meets its contract: nobody survives a refusal.
+use Rattle.merge.proofs.Admitting.{a-refusal}
+use Rattle.whole.proofs.refused.Statement.{statement}
+use Rattle.whole.proofs.refused.Tie as tie
+use Rattle.whole.proofs.refused.Reads as reads
+use Rattle.whole.proofs.refused.Lts as lts
+
+-- src/lib.rt:12:1
+returns : tie.Need-returns
+returns c = a-refusal (c .args .number) (c .pre)
+
+pub refused-spec : {M : Type 1} → statement M
+refused-spec = tie.close (tie.spec returns)

@@ -30,7 +30,7 @@ or-twice : (a c : Bool) → (a || (a || c)) ≡ (a || c)
 or-twice true c = refl
 or-twice false c = refl
 
-has-insert : (t x : ℕ) (l : List ℕ) → has t (insertTime x l) ≡ (eqb t x || has t l)
+pub has-insert : (t x : ℕ) (l : List ℕ) → has t (insertTime x l) ≡ (eqb t x || has t l)
 unfolding any insertTime
 has-insert t x [] = refl
 has-insert t x (a ∷ l) =
@@ -80,12 +80,12 @@ unfolding rises risesFrom
 rises-tail a [] r = refl
 rises-tail a (b ∷ l) r = and-right (ltb a b) _ r
 
-has-head : (a : ℕ) (l : List ℕ) → has a (a ∷ l) ≡ true
+pub has-head : (a : ℕ) (l : List ℕ) → has a (a ∷ l) ≡ true
 unfolding any
 has-head a l = simp (eq-eqb a a refl)
 
 -- two rising lists with the same members are the same
-same-members : (l m : List ℕ) → rises l ≡ true → rises m ≡ true → ((t : ℕ) → has t l ≡ has t m) → l ≡ m
+pub same-members : (l m : List ℕ) → rises l ≡ true → rises m ≡ true → ((t : ℕ) → has t l ≡ has t m) → l ≡ m
 unfolding rises any
 same-members [] [] r s f = refl
 same-members [] (b ∷ m) r s f = absurd (true-not-false (sym (has-head b m) ∙ sym (f b)))
@@ -161,14 +161,14 @@ some-has p t [] h k = absurd (true-not-false (sym h))
 some-has p t (a ∷ l) h k =
     by-test (eqb t a) (λ e. simp (sym (eqb-other p t a e) ∙ k)) (λ e. by-test (p a) (λ q. simp q) (λ q. simp q (some-has p t l (simp e at h) k)))
 
-none-has : (p : ℕ → Bool) (l : List ℕ) → ((t : ℕ) → has t l ≡ true → p t ≡ false) → any p l ≡ false
+pub none-has : (p : ℕ → Bool) (l : List ℕ) → ((t : ℕ) → has t l ≡ true → p t ≡ false) → any p l ≡ false
 unfolding any
 none-has p [] f = refl
 none-has p (a ∷ l) f =
     simp (f a (has-head a l)) (none-has p l (λ t h. f t (by-test (eqb t a) (λ e. simp e) (λ e. simp (e, h)))))
 
 -- at or below in both coordinates is at or below in number
-below-number : (s t : ℕ) → atOrBelow s t ≡ true → s ≤ t
+pub below-number : (s t : ℕ) → atOrBelow s t ≡ true → s ≤ t
 below-number s t h =
     let a : ignition s ≤ ignition t = leb-true _ _ (and-left _ _ h) in
     let b : tick s ≤ tick t = leb-true _ _ (and-right (leb (ignition s) (ignition t)) _ h) in

@@ -15,3 +15,7 @@ pub mod Alone
 pub mod Scan
 pub mod Answers
 pub mod Frontiers
+pub mod Joining
+pub mod Copies
+pub mod Spots
+pub mod Running

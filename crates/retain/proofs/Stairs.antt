@@ -1,16 +1,17 @@
 -- Corners in order: ignitions rise and ticks fall, so the last corner whose ignition is at or below a time's decides whether it is open.
-use Prim.Native.Nat.{ℕ, zero, suc, _+_, _-_, _<_, _≤_, _/_, _%_, _^_}
+use Prim.Native.Nat.{ℕ, zero, suc, _<_, _≤_}
 use mathlib.Core.Path.{_≡_, refl, sym, _∙_, ap}
-use mathlib.Core.Bool.{Bool, true, false, not, cond, _&&_, _||_}
+use mathlib.Core.Bool.{Bool, true, false, _&&_}
 use mathlib.Core.List.{List, [], _∷_}
 use native.Mathlib.Omega.{arith}
 use lib.Dec.{ltb, leb, eqb}
 use lib.ListN.{length, getD}
-use borrow.Author.Tests.{eqb-true, eqb-false, ltb-true, ltb-false, leb-true, leb-false, le-leb, lt-leb}
+use borrow.Author.Tests.{eqb-true, eqb-false, ltb-true, ltb-false, leb-false, le-leb, lt-leb}
 use Rattle.chunk.specs.Entry.{ignition, tick}
 use Rattle.chunk.specs.Time.{atOrBelow}
 use Rattle.laws.proofs.Tests.{by-test, and-left, and-right, and-false}
 use Rattle.retain.specs.Frontier.{any, isOpen, ordered}
+use Rattle.retain.specs.Found.{Stair, PartedAt}
 
 -- some item passes if one that is named does; none if none does
 pub any-some : (p : ℕ → Bool) (l : List ℕ) (k : ℕ) → k < length l → p (getD l k 0) ≡ true → any p l ≡ true
@@ -24,23 +25,18 @@ unfolding any
 any-none p [] f = refl
 any-none p (a ∷ l) f = simp (f zero (omega arith)) (any-none p l (λ k h. f (suc k) (omega arith)))
 
--- earlier in ignition and higher in tick
-pub record Stair (a b : ℕ) : Type 0 where
-  pub right : ignition a < ignition b
-  pub down : tick b < tick a
-
 pub ordered-tail : (a : ℕ) (l : List ℕ) → ordered (a ∷ l) ≡ true → ordered l ≡ true
 unfolding ordered
 ordered-tail a [] h = refl
 ordered-tail a (b ∷ l) h = and-right (ltb (ignition a) (ignition b) && ltb (tick b) (tick a)) _ h
 
-ordered-next : (a b : ℕ) (l : List ℕ) → ordered (a ∷ b ∷ l) ≡ true → Stair a b
+pub ordered-next : (a b : ℕ) (l : List ℕ) → ordered (a ∷ b ∷ l) ≡ true → Stair a b
 unfolding ordered
 ordered-next a b l h =
     let q : (ltb (ignition a) (ignition b) && ltb (tick b) (tick a)) ≡ true = and-left _ _ h in
     record { right = ltb-true _ _ (and-left _ _ q); down = ltb-true _ _ (and-right (ltb (ignition a) (ignition b)) _ q) }
 
-stairs : (a b c : ℕ) → Stair a b → Stair b c → Stair a c
+pub stairs : (a b c : ℕ) → Stair a b → Stair b c → Stair a c
 stairs a b c p q =
     let r1 = p .right in let r2 = q .right in let d1 = p .down in let d2 = q .down in
     record { right = omega arith; down = omega arith }
@@ -64,17 +60,11 @@ at-later c t h = simp (lt-leb _ _ h)
 at-higher : (c t : ℕ) → tick t < tick c → atOrBelow c t ≡ false
 at-higher c t h = simp (lt-leb _ _ h, and-false)
 
--- the corners before place n, and those from it on, by a time's ignition
-pub record Parted (corners : List ℕ) (t n : ℕ) : Type 0 where
-  pub within : n ≤ length corners
-  pub early : (k : ℕ) → k < n → ignition (getD corners k 0) ≤ ignition t
-  pub late : (k : ℕ) → n ≤ k → k < length corners → ignition t < ignition (getD corners k 0)
-
-pub open-none : (corners : List ℕ) (t : ℕ) → Parted corners t 0 → false ≡ isOpen corners t
+pub open-none : (corners : List ℕ) (t : ℕ) → PartedAt corners t 0 → false ≡ isOpen corners t
 unfolding isOpen
 open-none corners t w = sym (any-none _ corners (λ k h. at-later _ t (w .late k (omega arith) h)))
 
-pub open-last : (corners : List ℕ) (t n : ℕ) → ordered corners ≡ true → Parted corners t (suc n) → leb (tick (getD corners n 0)) (tick t) ≡ isOpen corners t
+pub open-last : (corners : List ℕ) (t n : ℕ) → ordered corners ≡ true → PartedAt corners t (suc n) → leb (tick (getD corners n 0)) (tick t) ≡ isOpen corners t
 unfolding isOpen
 open-last corners t n o w =
     let d : suc n ≤ length corners = w .within in

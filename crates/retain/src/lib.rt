@@ -13,6 +13,8 @@ ghost use Rattle.chunk.specs.Contents.{Placed};
 ghost use Rattle.chunk.specs.Bodies.{chunkOf};
 ghost use Rattle.retain.specs.Cut.{filterNumber, filterOut, Split};
 use chunk::Contents;
+use climb::add_corner;
+use climb::joins;
 use stay::count_below;
 use stay::count_keys;
 use stay::count_times;
@@ -20,6 +22,7 @@ use stay::count_values;
 use stay::is_open;
 use stay::time_kept;
 
+mod climb;
 mod stay;
 
 // Which times that have a diff stay: every one, those with an index below a number or from it on, those open under the corners, the others.
@@ -339,7 +342,7 @@ pub struct Corners {
 }
 
 // The frontier of the open times: the least of them, then the least of those with a lower tick, and so on.
-fn kept_corners(times: &[u64], upper: &[u64]) -> Corners
+fn scan_corners(times: &[u64], upper: &[u64]) -> Corners
     requires { ⌜ ordered (now upper) ≡ true ⌝ }
     ensures { λ r. ⌜ r ≡ cornersOf (leastOf (keep (isOpen (now (upper .entry))) (now (times .entry)))) ⌝ }
 {
@@ -378,6 +381,50 @@ fn kept_corners(times: &[u64], upper: &[u64]) -> Corners
             corners,
         },
     }
+}
+
+// The frontier of the open times in one look over them, with the corners of those so far. Gives up where they become too many.
+fn climb_corners(times: &[u64], upper: &[u64]) -> Corners
+    requires { ⌜ ordered (now upper) ≡ true ⌝ }
+    ensures { λ r. ⌜ (r .fits ≡ true → r ≡ cornersOf (leastOf (keep (isOpen (now (upper .entry))) (now (times .entry))))) ⌝ }
+{
+    let mut stairs = [0; 128];
+    let mut count = 0;
+    let mut i = 0;
+    while i < times.len() {
+        let time = times[i];
+        if joins(upper, &stairs[..count], time) {
+            let more = add_corner(&mut stairs[..], count, time);
+            if Frontier::MOST < more {
+                return Corners {
+                    fits: false,
+                    frontier: Frontier::new(),
+                };
+            }
+            count = more;
+        }
+        i += 1;
+    }
+    Corners {
+        fits: true,
+        frontier: Frontier {
+            count: count as u64,
+            corners: stairs,
+        },
+    }
+}
+
+// The frontier of the open times: in one look, or, where they have too many corners on the way, corner by corner.
+fn kept_corners(times: &[u64], upper: &[u64]) -> Corners
+    requires { ⌜ ordered (now upper) ≡ true ⌝ }
+    ensures { λ r. ⌜ r ≡ cornersOf (leastOf (keep (isOpen (now (upper .entry))) (now (times .entry)))) ⌝ }
+{
+    let quick = climb_corners(times, upper);
+    let done = quick.fits;
+    if done {
+        return quick;
+    }
+    scan_corners(times, upper)
 }
 
 // Whether corners stand in order: ignitions rising strictly and ticks falling strictly.

@@ -5,15 +5,16 @@ ghost use Prim.Native.Nat.{ℕ, _+_, _-_, _≤_, _<_};
 ghost use lib.ListN.{length};
 ghost use lib.Dec.{ltb};
 ghost use Rattle.retain.specs.Frontier.{isOpen, ordered};
+ghost use Rattle.retain.specs.Found.{PartedAt};
 ghost use Rattle.retain.specs.Keep.{keepsAt, timeKept, below};
 ghost use Rattle.retain.specs.Layers.{countKept, listKept};
 use crate::Keep;
 use crate::Level;
 
-// Whether some corner is at or below a time. Of the corners whose ignition is at or below the time's the last has the least tick.
-pub(crate) fn is_open(corners: &[u64], t: u64) -> bool
+// How many corners have an ignition at or below a time's.
+pub(crate) fn place_of(corners: &[u64], t: u64) -> usize
     requires { ⌜ ordered (now corners) ≡ true ⌝ }
-    ensures { λ r. ⌜ r ≡ isOpen (now (corners .entry)) t ⌝ }
+    ensures { λ r. ⌜ PartedAt (now (corners .entry)) t r ⌝ }
 {
     let ignition = t / 0x1_0000_0000;
     let mut low = 0;
@@ -27,10 +28,19 @@ pub(crate) fn is_open(corners: &[u64], t: u64) -> bool
             low = middle + 1;
         }
     }
-    if low == 0 {
+    low
+}
+
+// Whether some corner is at or below a time. Of the corners whose ignition is at or below the time's the last has the least tick.
+pub(crate) fn is_open(corners: &[u64], t: u64) -> bool
+    requires { ⌜ ordered (now corners) ≡ true ⌝ }
+    ensures { λ r. ⌜ r ≡ isOpen (now (corners .entry)) t ⌝ }
+{
+    let place = place_of(corners, t);
+    if place == 0 {
         return false;
     }
-    let corner = corners[low - 1];
+    let corner = corners[place - 1];
     corner % 0x1_0000_0000 <= t % 0x1_0000_0000
 }
 

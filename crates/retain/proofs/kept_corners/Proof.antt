@@ -1,84 +1,20 @@
--- `retain::kept_corners` meets its contract: the corners found, with the least of what is left, are the least of all.
-use Prim.Native.Nat.{ℕ, zero, suc, _+_, _-_, _<_, _≤_}
-use mathlib.Core.Path.{_≡_, refl, sym, _∙_, ap}
-use mathlib.Core.Bool.{Bool, true, false, not}
-use mathlib.Core.List.{List}
-use native.Mathlib.Omega.{arith}
-use lib.ListN.{length}
-use borrow.Author.Tests.{not-true, not-false}
-use Rattle.retain.specs.declared.Corners.{Corners}
-use Rattle.retain.specs.declared.Frontier.{Frontier}
-use Rattle.retain.proofs.Scan.{Climbing, climb-start, climb-more, climb-done, climb-over}
+-- `retain::kept_corners` meets its contract, by either way.
 use borrow.Author.Needs.{needs}
 use Rattle.retain.proofs.kept_corners.Statement.{statement}
 use Rattle.retain.proofs.kept_corners.Tie as tie
-use Rattle.retain.proofs.kept_corners.Reads as reads
-use Rattle.retain.proofs.kept_corners.Lts as lts
-use Rattle.retain.proofs.Frontier.new.Reads as new-reads
-use Rattle.retain.proofs.least_open.Reads as least-open-reads
 
--- too many corners
-fail : Frontier → Corners
-fail f = record { fits = false; frontier = f }
+climb-corners-requires : tie.Need-climb-corners-requires
+climb-corners-requires c κs = search needs
 
-abbrev Inv-loop : tie.InvT-loop
-Inv-loop times upper corners₀ count₀ limit₀ corners count limit = Climbing upper times corners count limit
+returns : tie.Need-returns
+returns c = c .before .climb-corners .ensures (c .if1 .taken)
 
-abbrev μ-loop : tie.MeasureT-loop
-μ-loop times upper corners₀ count₀ limit₀ corners count limit = 128 - count
+scan-corners-requires : tie.Need-scan-corners-requires
+scan-corners-requires c κs = search needs
 
-loop-holds : tie.Need-loop-holds Inv-loop μ-loop
-loop-holds c = climb-start _ _
-
-least-open-requires : tie.Need-least-open-requires Inv-loop μ-loop
-least-open-requires c κs = search needs
-
-returns : tie.Need-returns Inv-loop μ-loop
-returns c = let l = c .before .before .before .loop in climb-done _ _ (l .corners) (l .count) (l .limit) _ (l .inv) (c .before .least-open .ensures) (not-true _ (c .if1 .taken))
-
-mul-corners : tie.Need-mul-corners Inv-loop μ-loop
-mul-corners c = search needs
-
-array-write-corners : tie.Need-array-write-corners Inv-loop μ-loop
-array-write-corners c = search needs
-
-add-count : tie.Need-add-count Inv-loop μ-loop
-add-count c = search needs
-
-loop-less : tie.Need-loop-less Inv-loop μ-loop
-loop-less c = search needs
-
-loop-again : tie.Need-loop-again Inv-loop μ-loop
-loop-again c = let l = c .before .before .before .loop in climb-more _ _ (l .corners) (l .count) (l .limit) _ (l .inv) (c .before .before .loop-test .taken) (c .before .least-open .ensures) (not-false _ (c .if1 .left))
-
-least-open-requires-2 : tie.Need-least-open-requires-2 Inv-loop μ-loop
-least-open-requires-2 c κs = search needs
-
-new-requires : tie.Need-new-requires Inv-loop μ-loop
-new-requires c κs = search needs
-
-returns-2 : tie.Need-returns-2 Inv-loop μ-loop
-unfolding fail
-returns-2 c = let l = c .before .before .before .before .loop in ap fail (c .new .ensures) ∙ climb-over _ _ (l .corners) (l .count) (l .limit) _ (l .inv) (c .before .before .before .loop-test .left) (c .before .before .least-open2 .ensures) (c .before .if2 .taken)
-
-returns-3 : tie.Need-returns-3 Inv-loop μ-loop
-returns-3 c = let l = c .before .before .before .loop in climb-done _ _ (l .corners) (l .count) (l .limit) _ (l .inv) (c .before .least-open2 .ensures) (c .if2 .left)
+returns-2 : tie.Need-returns-2
+returns-2 c = search needs
 
 pub kept-corners-spec : {M : Type 1} → statement M
 kept-corners-spec =
-    tie.close
-    (tie.spec
-    Inv-loop
-    μ-loop
-    loop-holds
-    least-open-requires
-    returns
-    mul-corners
-    array-write-corners
-    add-count
-    loop-less
-    loop-again
-    least-open-requires-2
-    new-requires
-    returns-2
-    returns-3)
+    tie.close (tie.spec climb-corners-requires returns scan-corners-requires returns-2)

@@ -1,134 +1,49 @@
--- `retain::is_open` meets its contract: the place is halved until the corners part there by the time's ignition.
-use Prim.Native.Nat.{ℕ, zero, suc, _+_, _-_, _<_, _≤_}
-use mathlib.Core.Path.{_≡_, refl, sym, _∙_, ap}
-use mathlib.Core.Bool.{Bool, true, false}
+-- `retain::is_open` meets its contract: by the corner before the place where they part.
+use Prim.Native.Nat.{ℕ, zero, suc, _-_}
+use mathlib.Core.Path.{_≡_, refl}
+use mathlib.Core.Bool.{true, false}
 use mathlib.Core.List.{List}
 use native.Mathlib.Omega.{arith}
-use native.Mathlib.Numerals.{add-one, sub-one}
+use native.Mathlib.Numerals.{sub-one}
 use lib.Dec.{leb}
-use lib.ListN.{length, getD}
+use lib.ListN.{getD}
 use Rattle.chunk.specs.Entry as entry
 use Rattle.retain.specs.Frontier.{isOpen, ordered}
-use Rattle.retain.proofs.Stairs.{Parted, open-none, open-last, part-early, part-late}
+use Rattle.retain.specs.Found.{PartedAt}
+use Rattle.retain.proofs.Stairs.{open-none, open-last}
 use borrow.Author.Needs.{needs}
 use Rattle.retain.proofs.stay.is_open.Statement.{statement}
 use Rattle.retain.proofs.stay.is_open.Tie as tie
-use Rattle.retain.proofs.stay.is_open.Reads as reads
-use Rattle.retain.proofs.stay.is_open.Lts as lts
 
 -- corners part at `low` once nothing is left between
-closed : (corners : List ℕ) (t n : ℕ) → (n ≡ 0 → ⊥) → ordered corners ≡ true → Parted corners t n → leb (entry.tick (getD corners (n - 1) 0)) (entry.tick t) ≡ isOpen corners t
+closed : (corners : List ℕ) (t n : ℕ) → (n ≡ 0 → ⊥) → ordered corners ≡ true → PartedAt corners t n → leb (entry.tick (getD corners (n - 1) 0)) (entry.tick t) ≡ isOpen corners t
 closed corners t zero h o w = absurd (h refl)
 closed corners t (suc n) h o w = rw sub-one (open-last corners t n o w)
 
-none : (corners : List ℕ) (t n : ℕ) → n ≡ 0 → Parted corners t n → false ≡ isOpen corners t
+none : (corners : List ℕ) (t n : ℕ) → n ≡ 0 → PartedAt corners t n → false ≡ isOpen corners t
 none corners t zero h w = open-none corners t w
 none corners t (suc n) h w = absurd (omega arith)
 
--- the two bounds of the place
-record Bounds (corners : List ℕ) (t low high : ℕ) : Type 0 where
-  order : low ≤ high
-  within : high ≤ length corners
-  early : (k : ℕ) → k < low → entry.ignition (getD corners k 0) ≤ entry.ignition t
-  late : (k : ℕ) → high ≤ k → k < length corners → entry.ignition t < entry.ignition (getD corners k 0)
+place-of-requires : tie.Need-place-of-requires
+place-of-requires c κs = search needs
 
-met : (corners : List ℕ) (t low high : ℕ) → Bounds corners t low high → high ≤ low → Parted corners t low
-met corners t low high b h =
-    let o = b .order in let w = b .within in
-    record { within = omega arith; early = b .early; late = λ k l. b .late k (omega arith) }
+returns : tie.Need-returns
+returns c = none _ (c .before .before .before .args .t) _ (c .if1 .taken) (c .before .place-of .ensures)
 
-abbrev Inv-loop : tie.InvT-loop
-Inv-loop corners t ignition low₀ high₀ low high = Bounds corners t low high
-
-abbrev μ-loop : tie.MeasureT-loop
-μ-loop corners t ignition low₀ high₀ low high = high - low
-
-loop-holds : tie.Need-loop-holds Inv-loop μ-loop
-loop-holds c = record { order = omega arith; within = omega arith; early = λ k h. absurd (omega arith); late = λ k h l. absurd (omega arith) }
-
-sub-middle : tie.Need-sub-middle Inv-loop μ-loop
-sub-middle c = let b = c .before .loop .inv in let o = b .order in omega arith
-
-add-middle : tie.Need-add-middle Inv-loop μ-loop
-add-middle c = search needs
-
-mul-corner : tie.Need-mul-corner Inv-loop μ-loop
-mul-corner c = search needs
-
-shared-slice-read-corner : tie.Need-shared-slice-read-corner Inv-loop μ-loop
-shared-slice-read-corner c = search needs
-
-loop-less : tie.Need-loop-less Inv-loop μ-loop
-loop-less c = search needs
-
-loop-again : tie.Need-loop-again Inv-loop μ-loop
-loop-again c =
-    let a = c .before .before .before .before in
-    let l = c .before .before .before .loop in
-    record {
-      order = omega arith;
-      within = omega (arith, l .inv .within);
-      early = l .inv .early;
-      late = part-late (a .args .corners .now) (a .args .t) _ (a .pre) (c .if1 .taken);
-    }
-
-add-low : tie.Need-add-low Inv-loop μ-loop
-add-low c = search needs
-
-loop-less-2 : tie.Need-loop-less-2 Inv-loop μ-loop
-loop-less-2 c = search needs
-
-loop-again-2 : tie.Need-loop-again-2 Inv-loop μ-loop
-loop-again-2 c =
-    let a = c .before .before .before .before in
-    let l = c .before .before .before .loop in
-    let w = c .before .before .loop-test .taken in
-    record {
-      order = omega arith;
-      within = l .inv .within;
-      early = λ k h. part-early (a .args .corners .now) (a .args .t) _ (a .pre) (omega (arith, l .inv .within, l .inv .order)) (c .if1 .left) k (omega arith);
-      late = l .inv .late;
-    }
-
-returns : tie.Need-returns Inv-loop μ-loop
-returns c =
-    let a = c .before .before .before in
-    let l = c .before .before .loop in
-    none _ (a .args .t) (l .low) (c .if2 .taken) (met _ (a .args .t) (l .low) (l .high) (l .inv) (c .before .loop-test .left))
-
-sub-corner : tie.Need-sub-corner Inv-loop μ-loop
+sub-corner : tie.Need-sub-corner
 sub-corner c = search needs
 
-mul-corner-2 : tie.Need-mul-corner-2 Inv-loop μ-loop
-mul-corner-2 c = search needs
+mul-corner : tie.Need-mul-corner
+mul-corner c = search needs
 
-shared-slice-read-corner-2 : tie.Need-shared-slice-read-corner-2 Inv-loop μ-loop
-shared-slice-read-corner-2 c = search needs
+shared-slice-read-corner : tie.Need-shared-slice-read-corner
+shared-slice-read-corner c = omega (arith, c .before .before .place-of .ensures .within)
 
-returns-2 : tie.Need-returns-2 Inv-loop μ-loop
+returns-2 : tie.Need-returns-2
 returns-2 c =
     let a = c .before .before .before .before in
-    let l = c .before .before .before .loop in
-    closed _ (a .args .t) (l .low) (c .before .if2 .left) (a .pre) (met _ (a .args .t) (l .low) (l .high) (l .inv) (c .before .before .loop-test .left))
+    closed _ (a .args .t) _ (c .before .if1 .left) (a .pre) (c .before .before .place-of .ensures)
 
 pub is-open-spec : {M : Type 1} → statement M
 is-open-spec =
-    tie.close
-    (tie.spec
-    Inv-loop
-    μ-loop
-    loop-holds
-    sub-middle
-    add-middle
-    mul-corner
-    shared-slice-read-corner
-    loop-less
-    loop-again
-    add-low
-    loop-less-2
-    loop-again-2
-    returns
-    sub-corner
-    mul-corner-2
-    shared-slice-read-corner-2
-    returns-2)
+    tie.close (tie.spec place-of-requires returns sub-corner mul-corner shared-slice-read-corner returns-2)

@@ -17,7 +17,7 @@ use Rattle.laws.proofs.Tests.{by-test, and-left, and-right, and-both}
 use Rattle.laws.proofs.OneChunk.{front-is-chunk, bodies-in}
 use Rattle.laws.proofs.Layers.{Seven, ofEntries}
 use Rattle.laws.proofs.Frame.{inWords, parts}
-use Rattle.retain.specs.Layers.{countKept, pick, pickAt, countUp, nodes, itemOf, endOf, listKept, hasDiff, nodesOut, leavesOut, EndsWithin, Bodies, Left, layersOut}
+use Rattle.retain.specs.Layers.{countKept, pick, pickAt, countUp, nodes, itemOf, endOf, listKept, hasDiff, nodesOut, leavesOut, EndsWithin, EndsByOne, Bodies, Left, layersOut}
 use Rattle.retain.proofs.Filtered.{picked-keys, picked-valEnds, picked-vals, picked-timeEnds, pickAt-list, pickAt-diffs, picked-stands, length-pick, diffEnds-up, keep-all, nodes-pick, picked-few}
 use Rattle.retain.proofs.Counts.{count-most}
 
@@ -55,6 +55,20 @@ unfolding endsStep
 step-most low [] top i h = omega arith
 step-most low (e ∷ ends) top zero h = step-low e ends top (and-right (eqb e low || eqb e (suc low)) _ h)
 step-most low (e ∷ ends) top (suc i) h = step-most e ends top i (and-right (eqb e low || eqb e (suc low)) _ h)
+
+-- and one that is higher is one higher
+step-one : (low : ℕ) (ends : List ℕ) (top i : ℕ) → endsStep low ends top ≡ true → startOf (low ∷ ends) (suc i) < getD ends i 0 → getD ends i 0 ≡ suc (startOf (low ∷ ends) (suc i))
+unfolding endsStep
+step-one low [] top i h k = absurd (omega arith)
+step-one low (e ∷ ends) top zero h k =
+    by-test (eqb e low)
+    (λ m. let q : e ≡ low = eqb-true _ _ m in absurd (omega arith))
+    (λ m. let o : (eqb e low || eqb e (suc low)) ≡ true = and-left _ _ h in eqb-true _ _ (simp m at o))
+step-one low (e ∷ ends) top (suc i) h k = step-one e ends top i (and-right (eqb e low || eqb e (suc low)) _ h) k
+
+step-by-one : (ends : List ℕ) (top : ℕ) → endsStep 0 ends top ≡ true → EndsByOne ends
+step-by-one ends top h zero k = step-one 0 ends top 0 h (ltb-true _ _ k)
+step-by-one ends top h (suc i) k = step-one 0 ends top (suc i) h (ltb-true _ _ k)
 
 module _ (w : List ℕ) (f : wellFormed w ≡ true) (leaf : ℕ → Bool) where
   abbrev es : List Entry
@@ -175,6 +189,7 @@ module _ (w : List ℕ) (f : wellFormed w ≡ true) (leaf : ℕ → Bool) where
         valEndsRise = val-ends-rise;
         timeEndsRise = time-ends-rise;
         diffsWithin = diffs-within;
+        diffsByOne = step-by-one (diffEndBody w) (nd w) (parts w f .diffEndsStep);
       }
 
   few-times : countKept timeStays 0 (length (timeBody w)) ≤ nd w

@@ -72,7 +72,18 @@ leavesOut m times diffEnds diffs =
 abbrev pub EndsWithin : List ℕ → ℕ → Type 0
 EndsWithin ends n = (i : ℕ) → hasDiff ends i ≡ true → startOf ends i < n
 
--- seven bodies that belong together: as many ends as items above them, ends that rise, and diffs where the diff ends say
+-- a list that has an item has one
+abbrev pub EndsByOne : List ℕ → Type 0
+EndsByOne ends = (i : ℕ) → hasDiff ends i ≡ true → getD ends i 0 ≡ suc (startOf ends i)
+
+-- a run: the items from one index to another stay, and there one does not, or they end
+pub record KeptRun (m : ℕ → Bool) (from end top : ℕ) : Type 0 where
+  pub onward : from ≤ end
+  pub within : end ≤ top
+  pub stay : (k : ℕ) → k < end → from ≤ k → m k ≡ true
+  pub stop : end < top → m end ≡ false
+
+-- seven bodies that belong together: as many ends as items above them, ends that rise, and diffs where the diff ends say, one each
 pub record Bodies (keys valEnds vals timeEnds times diffEnds diffs : List ℕ) : Type 0 where
   pub keyRows : length keys ≡ length valEnds
   pub valRows : length vals ≡ length timeEnds
@@ -80,6 +91,7 @@ pub record Bodies (keys valEnds vals timeEnds times diffEnds diffs : List ℕ) :
   pub valEndsRise : risesFrom 0 valEnds ≡ true
   pub timeEndsRise : risesFrom 0 timeEnds ≡ true
   pub diffsWithin : EndsWithin diffEnds (length diffs)
+  pub diffsByOne : EndsByOne diffEnds
 
 -- what is left of each layer, within the limit, and room for its chunk
 pub record Left (m : ℕ → Bool) (keys valEnds vals timeEnds times : List ℕ) (k v t room : ℕ) : Type 0 where

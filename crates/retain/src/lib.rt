@@ -7,7 +7,7 @@ ghost use Rattle.retain.specs.Found.{emptyFrontier, leastFrom, betterTha
 ghost use Rattle.chunk.specs.Entry.{keep};
 ghost use Rattle.retain.specs.Answer.{verdictBy, refusedBy, Parted, Extraction};
 ghost use Rattle.retain.specs.Keep.{keepsAt, timeKept, below, retainedOf};
-ghost use Rattle.retain.specs.Layers.{countKept, listKept, nodes, itemOf, nodesOut, leavesOut, EndsWithin, Bodies, Left, layersOut};
+ghost use Rattle.retain.specs.Layers.{countKept, listKept, nodes, itemOf, nodesOut, leavesOut, EndsWithin, EndsByOne, Bodies, Left, layersOut};
 ghost use Rattle.chunk.specs.Words.{risesFrom, wellFormed, settled, size, over, entries};
 ghost use Rattle.chunk.specs.Contents.{Placed};
 ghost use Rattle.chunk.specs.Bodies.{chunkOf};
@@ -15,14 +15,16 @@ ghost use Rattle.retain.specs.Cut.{filterNumber, filterOut, Split};
 use chunk::Contents;
 use climb::add_corner;
 use climb::joins;
+use runs::write_run;
 use stay::count_below;
 use stay::count_keys;
 use stay::count_times;
 use stay::count_values;
 use stay::is_open;
-use stay::time_kept;
+use stay::run_end;
 
 mod climb;
+mod runs;
 mod stay;
 
 // Which times that have a diff stay: every one, those with an index below a number or from it on, those open under the corners, the others.
@@ -85,7 +87,7 @@ fn write_nodes(
     }
 }
 
-// Writes the times that stay, after them the ends of their lists, and after these their diffs, one each.
+// Writes the times that stay, after them the ends of their lists, and after these their diffs, one each: run by run.
 fn write_leaves(
     keep: Keep,
     times: &[u64],
@@ -96,22 +98,22 @@ fn write_leaves(
     out: &mut [u64],
 )
     requires { ⌜ (length (now «diff_ends») ≡ length (now times)) × (ordered (now corners) ≡ true) ⌝ }
-    requires { ⌜ EndsWithin (now «diff_ends») (length (now diffs)) ⌝ }
+    requires { ⌜ EndsWithin (now «diff_ends») (length (now diffs)) × EndsByOne (now «diff_ends») ⌝ }
     requires { ⌜ (n ≡ countKept (timeKept keep (now times) (now corners) (now «diff_ends»)) 0 (length (now times))) × (length (now out) ≡ n + (n + n)) ⌝ }
     ensures { λ _. ⌜ now (out .exit) ≡ leavesOut (timeKept keep (now (times .entry)) (now (corners .entry)) (now («diff_ends» .entry))) (now (times .entry)) (now («diff_ends» .entry)) (now (diffs .entry)) ⌝ }
 {
     let mut at = 0;
     let mut i = 0;
     while i < times.len() {
-        let list = chunk::child_range(diff_ends, i);
-        let lower = list.lower;
-        if time_kept(keep, times, corners, diff_ends, i) {
-            out[at] = times[i];
-            out[n + at] = at as u64 + 1;
-            out[n + n + at] = diffs[lower];
-            at += 1;
+        let end = run_end(keep, times, corners, diff_ends, i);
+        if i < end {
+            let list = chunk::child_range(diff_ends, i);
+            let lower = list.lower;
+            let upper = lower + (end - i);
+            write_run(&times[i..end], &diffs[lower..upper], n, at, out);
+            at += end - i;
         }
-        i += 1;
+        i = end + 1;
     }
 }
 

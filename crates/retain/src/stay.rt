@@ -7,7 +7,7 @@ ghost use lib.Dec.{ltb};
 ghost use Rattle.retain.specs.Frontier.{isOpen, ordered};
 ghost use Rattle.retain.specs.Found.{PartedAt};
 ghost use Rattle.retain.specs.Keep.{keepsAt, timeKept, below};
-ghost use Rattle.retain.specs.Layers.{countKept, listKept};
+ghost use Rattle.retain.specs.Layers.{countKept, listKept, KeptRun};
 use crate::Keep;
 use crate::Level;
 
@@ -99,6 +99,28 @@ pub(crate) fn count_times(
         i += 1;
     }
     count
+}
+
+// Where the times that stay end, from one index on.
+pub(crate) fn run_end(
+    keep: Keep,
+    times: &[u64],
+    corners: &[u64],
+    diff_ends: &[u64],
+    from: usize,
+) -> usize
+    requires { ⌜ (length (now «diff_ends») ≤ length (now times)) × (ordered (now corners) ≡ true) ⌝ }
+    requires { ⌜ from ≤ length (now times) ⌝ }
+    ensures { λ r. ⌜ KeptRun (timeKept keep (now (times .entry)) (now (corners .entry)) (now («diff_ends» .entry))) from r (length (now (times .entry))) ⌝ }
+{
+    let mut end = from;
+    while end < times.len() {
+        if !time_kept(keep, times, corners, diff_ends, end) {
+            return end;
+        }
+        end += 1;
+    }
+    end
 }
 
 // Whether one of the times from one index to another stays. The first that does settles it.

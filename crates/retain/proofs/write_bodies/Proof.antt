@@ -143,7 +143,7 @@ write-leaves-requires c κs =
     let k = c .before .before .before .before .before .before .before .before .before .before .before .write-table .kept .0 in
     let g = c .before .before .before .before .before .before .out2 .given in
     let h = c .before .before .out3 .given in
-    ((b .timeRows, a .pre .0), (b .diffsWithin, (f .timesLeft, part-length _ (c .before .before .before .before .before .before .before .before .before .before .before .before .before .layout .result .«times_at») (c .before .before .before .before .before .before .before .before .before .before .before .before .before .layout .result .size) (a .args .nt + (a .args .nt + a .args .nt)) (omega arith) (omega (arith, f .fits)))))
+    ((b .timeRows, a .pre .0), ((b .diffsWithin, b .diffsByOne), (f .timesLeft, part-length _ (c .before .before .before .before .before .before .before .before .before .before .before .before .before .layout .result .«times_at») (c .before .before .before .before .before .before .before .before .before .before .before .before .before .layout .result .size) (a .args .nt + (a .args .nt + a .args .nt)) (omega arith) (omega (arith, f .fits)))))
 
 same-length : tie.Need-same-length
 same-length c =

@@ -1,0 +1,79 @@
+-- `retain::runs::count_up` meets its contract.
+use Prim.Native.Nat.{_+_, _-_, _≤_}
+use mathlib.Core.Path.{_≡_, sym, _∙_}
+use native.Mathlib.Omega.{arith}
+use native.Mathlib.Numerals.{add-one}
+use lib.ListN.{length, length-set}
+use lib.Seq.{take-all}
+use Rattle.retain.specs.Layers.{countUp}
+use Rattle.retain.proofs.Copies.{partly, stepped, partly-end}
+use Rattle.retain.proofs.Leaving.{length-countUp, getD-countUp}
+use borrow.Author.Needs.{needs}
+use Rattle.retain.proofs.runs.count_up.Statement.{statement}
+use Rattle.retain.proofs.runs.count_up.Tie as tie
+
+abbrev Inv-loop : tie.InvT-loop
+Inv-loop first dst₀ i₀ dst i = (i ≤ length dst₀) × (length dst ≡ length dst₀) × (dst ≡ partly dst₀ (countUp first (length dst₀)) i)
+
+abbrev μ-loop : tie.MeasureT-loop
+μ-loop first dst₀ i₀ dst i = length dst₀ - i
+
+loop-holds : tie.Need-loop-holds Inv-loop μ-loop
+loop-holds c = search needs
+
+add-dst : tie.Need-add-dst Inv-loop μ-loop
+add-dst c = search needs
+
+add-dst-2 : tie.Need-add-dst-2 Inv-loop μ-loop
+add-dst-2 c = search needs
+
+mul-dst : tie.Need-mul-dst Inv-loop μ-loop
+mul-dst c = search needs
+
+slice-write-dst : tie.Need-slice-write-dst Inv-loop μ-loop
+slice-write-dst c = search needs
+
+add-i : tie.Need-add-i Inv-loop μ-loop
+add-i c = search needs
+
+loop-less : tie.Need-loop-less Inv-loop μ-loop
+loop-less c = search needs
+
+loop-again : tie.Need-loop-again Inv-loop μ-loop
+loop-again c =
+    let l = c .before .loop in
+    let a = c .before .before in
+    let n = length-countUp (a .args .first) (length (a .args .dst .now)) in (
+      omega arith,
+      simp length-set (l .inv .1),
+      stepped (a .args .dst .now) (countUp (a .args .first) (length (a .args .dst .now))) (l .i) (omega arith) (omega arith) (l .inv .2)
+          (add-one (a .args .first + l .i) ∙ sym (getD-countUp (a .args .first) (length (a .args .dst .now)) (l .i) (omega arith))),
+    )
+
+same-length : tie.Need-same-length Inv-loop μ-loop
+same-length c = search needs
+
+returns : tie.Need-returns Inv-loop μ-loop
+returns c =
+    let l = c .before .loop in
+    let a = c .before .before in
+    let n = length-countUp (a .args .first) (length (a .args .dst .now)) in
+    l .inv .2 ∙ partly-end (a .args .dst .now) (countUp (a .args .first) (length (a .args .dst .now))) (l .i) (omega arith) (omega arith)
+    ∙ take-all (length (a .args .dst .now)) (countUp (a .args .first) (length (a .args .dst .now))) (omega arith)
+
+pub count-up-spec : {M : Type 1} → statement M
+count-up-spec =
+    tie.close
+    (tie.spec
+    Inv-loop
+    μ-loop
+    loop-holds
+    add-dst
+    add-dst-2
+    mul-dst
+    slice-write-dst
+    add-i
+    loop-less
+    loop-again
+    same-length
+    returns)

@@ -32,7 +32,7 @@ module _ (corners : List ℕ) (es : List Entry) where
   its-frontier = ap leastOf (sym (keep-times (isOpen corners) es))
 
   -- kept and shipped are all
-  lengths : (fs : List Entry) → length (keptOf corners fs) + length (shippedOf corners fs) ≡ length fs
+  pub lengths : (fs : List Entry) → length (keptOf corners fs) + length (shippedOf corners fs) ≡ length fs
   unfolding keptOf shippedOf keep
   lengths [] = refl
   lengths (e ∷ fs) =

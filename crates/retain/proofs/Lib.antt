@@ -19,3 +19,4 @@ pub mod Joining
 pub mod Copies
 pub mod Spots
 pub mod Running
+pub mod Whole

@@ -15,6 +15,7 @@ ghost use Rattle.retain.specs.Cut.{filterNumber, filterOut, Split};
 use chunk::Contents;
 use climb::add_corner;
 use climb::joins;
+use runs::copy;
 use runs::write_run;
 use stay::count_below;
 use stay::count_keys;
@@ -179,10 +180,18 @@ fn write_bodies(
     );
 }
 
-// Writes the chunk of the entries that stay: the items that pass, and above them the lists that are not left empty, layer by layer.
-fn retain_items(words: &[u64], found: Contents, keep: Keep, corners: &[u64], out: &mut [u64])
+// Writes the chunk of the entries that stay, so many of them: the items that pass, and above them the lists that are not left empty, layer by layer.
+fn retain_some(
+    words: &[u64],
+    found: Contents,
+    keep: Keep,
+    corners: &[u64],
+    nt: usize,
+    out: &mut [u64],
+)
     requires { ⌜ (wellFormed (now words) ≡ true) × Placed found (now words) ⌝ }
     requires { ⌜ (ordered (now corners) ≡ true) × (size (now words) ≤ length (now out)) ⌝ }
+    requires { ⌜ nt ≡ length (retainedOf keep (now corners) (now words)) ⌝ }
     ensures { λ _. ⌜ now (out .exit) ≡ over (chunkOf (retainedOf keep (now (corners .entry)) (now (words .entry)))) (now (out .entry)) ⌝ }
 {
     let keys_at = found.keys_at;
@@ -211,7 +220,6 @@ fn retain_items(words: &[u64], found: Contents, keep: Keep, corners: &[u64], out
         keys.len(),
     );
     let nv = count_values(keep, times, corners, diff_ends, time_ends, 0, vals.len());
-    let nt = count_times(keep, times, corners, diff_ends, 0, times.len());
     write_bodies(
         keep,
         corners,
@@ -227,6 +235,56 @@ fn retain_items(words: &[u64], found: Contents, keep: Keep, corners: &[u64], out
         nt,
         out,
     );
+}
+
+// The same: the whole chunk as it is where all stay, and the empty one where none does.
+fn retain_counted(
+    words: &[u64],
+    found: Contents,
+    keep: Keep,
+    corners: &[u64],
+    nt: usize,
+    out: &mut [u64],
+)
+    requires { ⌜ (wellFormed (now words) ≡ true) × Placed found (now words) ⌝ }
+    requires { ⌜ (ordered (now corners) ≡ true) × (size (now words) ≤ length (now out)) ⌝ }
+    requires { ⌜ nt ≡ length (retainedOf keep (now corners) (now words)) ⌝ }
+    ensures { λ _. ⌜ now (out .exit) ≡ over (chunkOf (retainedOf keep (now (corners .entry)) (now (words .entry)))) (now (out .entry)) ⌝ }
+{
+    let all = found.nt;
+    let size = found.size;
+    if nt == all {
+        copy(&words[..size], &mut out[..size]);
+        return;
+    }
+    if nt == 0 {
+        chunk::write_table(out, 0, 0, 0, 0);
+        return;
+    }
+    retain_some(words, found, keep, corners, nt, out);
+}
+
+// How many entries stay.
+fn count_items(words: &[u64], found: Contents, keep: Keep, corners: &[u64]) -> usize
+    requires { ⌜ (wellFormed (now words) ≡ true) × (Placed found (now words) × (ordered (now corners) ≡ true)) ⌝ }
+    ensures { λ r. ⌜ r ≡ length (retainedOf keep (now (corners .entry)) (now (words .entry))) ⌝ }
+{
+    let times_at = found.times_at;
+    let diff_ends_at = found.diff_ends_at;
+    let diffs_at = found.diffs_at;
+    let times = &words[times_at..diff_ends_at];
+    let diff_ends = &words[diff_ends_at..diffs_at];
+    count_times(keep, times, corners, diff_ends, 0, times.len())
+}
+
+// Writes the chunk of the entries that stay.
+fn retain_items(words: &[u64], found: Contents, keep: Keep, corners: &[u64], out: &mut [u64])
+    requires { ⌜ (wellFormed (now words) ≡ true) × Placed found (now words) ⌝ }
+    requires { ⌜ (ordered (now corners) ≡ true) × (size (now words) ≤ length (now out)) ⌝ }
+    ensures { λ _. ⌜ now (out .exit) ≡ over (chunkOf (retainedOf keep (now (corners .entry)) (now (words .entry)))) (now (out .entry)) ⌝ }
+{
+    let nt = count_items(words, found, keep, corners);
+    retain_counted(words, found, keep, corners, nt, out);
 }
 
 // Filter: times without a diff go, then values and keys left without children. 5 where the chunk isn't well formed, 13 where `out` is short.
@@ -516,19 +574,18 @@ fn extract_open(
 {
     let times_at = found.times_at;
     let diff_ends_at = found.diff_ends_at;
-    let diffs_at = found.diffs_at;
     let times = &words[times_at..diff_ends_at];
-    let diff_ends = &words[diff_ends_at..diffs_at];
     let least = kept_corners(times, corners);
     let fits = least.fits;
     if !fits {
         return refused(10);
     }
     let frontier = least.frontier;
-    let open = count_times(Keep::Open, times, corners, diff_ends, 0, times.len());
-    let verdict = verdict_of(open, times.len());
-    retain_items(words, found, Keep::Open, corners, kept);
-    retain_items(words, found, Keep::Shut, corners, shipped);
+    let open = count_items(words, found, Keep::Open, corners);
+    let all = found.nt;
+    let verdict = verdict_of(open, all);
+    retain_counted(words, found, Keep::Open, corners, open, kept);
+    retain_counted(words, found, Keep::Shut, corners, all - open, shipped);
     Extracted {
         number: 0,
         verdict,

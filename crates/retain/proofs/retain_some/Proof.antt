@@ -1,12 +1,12 @@
--- `retain::retain_items` meets its contract: the parts cut out are the bodies, and what is written of them is the chunk of what stays.
-use Prim.Native.Nat.{ℕ, zero, suc, _+_, _-_, _*_, _<_, _≤_}
-use mathlib.Core.Path.{_≡_, refl, sym, _∙_, ap}
-use mathlib.Core.Bool.{Bool, true, false}
-use mathlib.Core.List.{List, [], _∷_, _++_}
+-- `retain::retain_some` meets its contract: the parts cut out are the bodies, and what is written of them is the chunk of what stays.
+use Prim.Native.Nat.{ℕ, _-_, _≤_}
+use mathlib.Core.Path.{_≡_, sym, _∙_, ap}
+use mathlib.Core.Bool.{Bool, true}
+use mathlib.Core.List.{List}
 use native.Mathlib.Omega.{arith}
 use lib.ListN.{length, take, drop}
 use Rattle.chunk.specs.declared.Contents.{Contents}
-use Rattle.chunk.specs.Words.{wellFormed, size, over, entries, keyBody, valEndBody, valBody, timeEndBody, timeBody, diffEndBody, diffBody}
+use Rattle.chunk.specs.Words.{wellFormed, size, over, entries, timeBody, diffEndBody}
 use Rattle.chunk.specs.Bodies.{chunkOf}
 use Rattle.chunk.specs.Contents.{Placed}
 use Rattle.chunk.proofs.Placed.{cut-keys, cut-val-ends, cut-vals, cut-time-ends, cut-times, cut-diff-ends, cut-diffs, length-times, length-diff-ends}
@@ -14,15 +14,10 @@ use Rattle.retain.specs.declared.Keep.{Keep}
 use Rattle.retain.specs.Keep.{keepsAt, timeKept, retainedOf}
 use Rattle.retain.specs.Layers.{countKept, listKept, pick, Bodies, Left, layersOut}
 use Rattle.retain.proofs.Retained.{its-bodies, its-left, its-words}
+use Rattle.retain.proofs.Whole.{items-count}
 use borrow.Author.Needs.{needs}
-use Rattle.retain.proofs.retain_items.Statement.{statement}
-use Rattle.retain.proofs.retain_items.Tie as tie
-use Rattle.retain.proofs.retain_items.Reads as reads
-use Rattle.retain.proofs.retain_items.Lts as lts
-use Rattle.retain.proofs.stay.count_keys.Reads as count-keys-reads
-use Rattle.retain.proofs.stay.count_times.Reads as count-times-reads
-use Rattle.retain.proofs.stay.count_values.Reads as count-values-reads
-use Rattle.retain.proofs.write_bodies.Reads as write-bodies-reads
+use Rattle.retain.proofs.retain_some.Statement.{statement}
+use Rattle.retain.proofs.retain_some.Tie as tie
 
 -- what the parts of a slice are, by the places of its contents
 module _ (found : Contents) (w : List ℕ) (p : Placed found w) (formed : wellFormed w ≡ true) (keep : Keep) (corners : List ℕ) where
@@ -164,29 +159,28 @@ part-diffs-end : tie.Need-part-diffs-end
 part-diffs-end c = search needs
 
 count-keys-requires : tie.Need-count-keys-requires
-count-keys-requires c κs = let a = c .before .before .before .before .before .before .before .before .before .before in (rows (a .args .found) (a .args .words .now) (a .pre .0 .1) (a .pre .0 .0) (a .args .keep) (a .args .corners .now), a .pre .1 .0)
+count-keys-requires c κs = let a = c .before .before .before .before .before .before .before .before .before .before in (rows (a .args .found) (a .args .words .now) (a .pre .0 .1) (a .pre .0 .0) (a .args .keep) (a .args .corners .now), a .pre .1 .0 .0)
 
 count-values-requires : tie.Need-count-values-requires
-count-values-requires c κs = let a = c .before .before .before .before .before .before .before .before .before .before .before in (rows (a .args .found) (a .args .words .now) (a .pre .0 .1) (a .pre .0 .0) (a .args .keep) (a .args .corners .now), a .pre .1 .0)
-
-count-times-requires : tie.Need-count-times-requires
-count-times-requires c κs = let a = c .before .before .before .before .before .before .before .before .before .before .before .before in (rows (a .args .found) (a .args .words .now) (a .pre .0 .1) (a .pre .0 .0) (a .args .keep) (a .args .corners .now), a .pre .1 .0)
+count-values-requires c κs = let a = c .before .before .before .before .before .before .before .before .before .before .before in (rows (a .args .found) (a .args .words .now) (a .pre .0 .1) (a .pre .0 .0) (a .args .keep) (a .args .corners .now), a .pre .1 .0 .0)
 
 write-bodies-requires : tie.Need-write-bodies-requires
 write-bodies-requires c κs =
-    let a = c .before .before .before .before .before .before .before .before .before .before .before .before .before .before in
-    (a .pre .1 .0, (fit (a .args .found) (a .args .words .now) (a .pre .0 .1) (a .pre .0 .0) (a .args .keep) (a .args .corners .now), left (a .args .found) (a .args .words .now) (a .pre .0 .1) (a .pre .0 .0) (a .args .keep) (a .args .corners .now) _ _ _ _ (c .before .before .before .count-keys .ensures) (c .before .before .count-values .ensures) (c .before .count-times .ensures) (a .pre .1 .1)))
+    let a = c .before .before .before .before .before .before .before .before .before .before .before .before .before in
+    let n = a .pre .1 .1 ∙ sym (items-count (a .args .found) (a .args .words .now) (a .args .keep) (a .args .corners .now) (a .pre .0 .1) (a .pre .0 .0)) in
+    (a .pre .1 .0 .0, (fit (a .args .found) (a .args .words .now) (a .pre .0 .1) (a .pre .0 .0) (a .args .keep) (a .args .corners .now), left (a .args .found) (a .args .words .now) (a .pre .0 .1) (a .pre .0 .0) (a .args .keep) (a .args .corners .now) _ _ _ _ (c .before .before .count-keys .ensures) (c .before .count-values .ensures) n (a .pre .1 .0 .1)))
 
 same-length : tie.Need-same-length
 same-length c = search needs
 
 returns : tie.Need-returns
 returns c =
-    let a = c .before .before .before .before .before .before .before .before .before .before .before .before .before .before .before .before .before in
-    c .before .before .write-bodies .ensures ∙ words (a .args .found) (a .args .words .now) (a .pre .0 .1) (a .pre .0 .0) (a .args .keep) (a .args .corners .now) _ _ _ _ (c .before .before .before .before .before .before .count-keys .ensures) (c .before .before .before .before .before .count-values .ensures) (c .before .before .before .before .count-times .ensures)
+    let a = c .before .before .before .before .before .before .before .before .before .before .before .before .before .before .before .before in
+    let n = a .pre .1 .1 ∙ sym (items-count (a .args .found) (a .args .words .now) (a .args .keep) (a .args .corners .now) (a .pre .0 .1) (a .pre .0 .0)) in
+    c .before .before .write-bodies .ensures ∙ words (a .args .found) (a .args .words .now) (a .pre .0 .1) (a .pre .0 .0) (a .args .keep) (a .args .corners .now) _ _ _ _ (c .before .before .before .before .before .count-keys .ensures) (c .before .before .before .before .count-values .ensures) n
 
-pub retain-items-spec : {M : Type 1} → statement M
-retain-items-spec =
+pub retain-some-spec : {M : Type 1} → statement M
+retain-some-spec =
     tie.close
     (tie.spec
     mul-keys
@@ -219,7 +213,6 @@ retain-items-spec =
     part-diffs-end
     count-keys-requires
     count-values-requires
-    count-times-requires
     write-bodies-requires
     same-length
     returns)

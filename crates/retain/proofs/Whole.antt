@@ -1,0 +1,65 @@
+-- How many entries stay, and the chunk of them where all do or none does.
+use Prim.Native.Nat.{ℕ, suc, _-_, _≤_}
+use mathlib.Core.Path.{_≡_, refl, sym, _∙_, ap}
+use mathlib.Core.Bool.{Bool, true}
+use mathlib.Core.List.{List, [], _∷_, _++_}
+use native.Mathlib.Omega.{arith}
+use lib.ListN.{length, take, drop}
+use lib.Seq.{length-take-le}
+use Rattle.chunk.specs.declared.Contents.{Contents}
+use Rattle.chunk.specs.Entry.{Entry, keep}
+use Rattle.chunk.specs.Bodies.{chunkOf, lastsOf, endsOf, diffEndsFrom}
+use Rattle.chunk.specs.Words.{wellFormed, entries, over, size, nt, timeBody, diffEndBody}
+use Rattle.chunk.specs.Contents.{Placed, withTable}
+use Rattle.chunk.proofs.Placed.{cut-times, cut-diff-ends}
+use Rattle.laws.proofs.Tests.{by-test}
+use Rattle.laws.proofs.OneChunk.{front-is-chunk}
+use Rattle.retain.specs.declared.Keep.{Keep}
+use Rattle.retain.specs.Keep.{keepsAt, timeKept, retainedOf}
+use Rattle.retain.specs.Layers.{countKept, pick}
+use Rattle.retain.proofs.Filtered.{length-pick}
+use Rattle.retain.proofs.Counts.{count-most}
+use Rattle.retain.proofs.Retained.{out-count}
+use Rattle.retain.proofs.Parts.{table-front}
+
+-- as many stay as times that do, cut out of the words
+pub items-count : (found : Contents) (w : List ℕ) (k : Keep) (corners : List ℕ) → Placed found w → wellFormed w ≡ true
+    → countKept (timeKept k (take (found .«diff_ends_at» - found .«times_at») (drop (found .«times_at») w)) corners (take (found .«diffs_at» - found .«diff_ends_at») (drop (found .«diff_ends_at») w))) 0
+    (length (take (found .«diff_ends_at» - found .«times_at») (drop (found .«times_at») w)) - 0)
+    ≡ length (retainedOf k corners w)
+unfolding retainedOf
+items-count found w k corners p formed =
+    let z : length (timeBody w) - 0 ≡ length (timeBody w) = omega arith in
+    (λ i. countKept (timeKept k (cut-times found w p i) corners (cut-diff-ends found w p i)) 0 (length (cut-times found w p i) - 0))
+    ∙ ap (countKept (timeKept k (timeBody w) corners (diffEndBody w)) 0) z
+    ∙ sym (out-count w formed (keepsAt k (timeBody w) corners))
+
+pick-whole : {A : Type 0} (m : ℕ → Bool) (i : ℕ) (l : List A) → length (pick m i l) ≡ length l → pick m i l ≡ l
+unfolding pick
+pick-whole m i [] h = refl
+pick-whole m i (x ∷ l) h =
+    by-test (m i)
+    (λ k. let q : suc (length (pick m (suc i) l)) ≡ suc (length l) = simp k at h in simp k (ap (λ (r : List _). x ∷ r) (pick-whole m (suc i) l (omega arith))))
+    (λ k. let q : length (pick m (suc i) l) ≡ suc (length l) = simp k at h in
+    let e = length-pick m (suc i) l in let b = count-most m (suc i) (length l) in absurd (omega arith))
+
+pick-nothing : {A : Type 0} (l : List A) → length l ≡ 0 → l ≡ []
+pick-nothing [] h = refl
+pick-nothing (x ∷ l) h = absurd (omega arith)
+
+module _ (k : Keep) (corners w : List ℕ) (formed : wellFormed w ≡ true) where
+  all-stay : length (retainedOf k corners w) ≡ nt w → retainedOf k corners w ≡ entries w
+  unfolding retainedOf
+  all-stay h = pick-whole (timeKept k (timeBody w) corners (diffEndBody w)) 0 (entries w) (h ∙ sym (front-is-chunk w formed .counted))
+
+  -- all stay: the front of the words as it is
+  pub whole-chunk : (out : List ℕ) → length (retainedOf k corners w) ≡ nt w → size w ≤ length w → take (size w) w ++ drop (size w) out ≡ over (chunkOf (retainedOf k corners w)) out
+  whole-chunk out h b =
+      let f : take (size w) w ≡ chunkOf (retainedOf k corners w) = front-is-chunk w formed .front ∙ ap chunkOf (sym (all-stay h)) in
+      let n : length (take (size w) w) ≡ size w = length-take-le (size w) w b in
+      ap (λ (x : ℕ). take (size w) w ++ drop x out) (sym n) ∙ ap (λ (c : List ℕ). over c out) f
+
+  -- none stays: the empty table
+  pub no-chunk : (out : List ℕ) → length (retainedOf k corners w) ≡ 0 → 4 ≤ length out → withTable 0 0 0 0 out ≡ over (chunkOf (retainedOf k corners w)) out
+  unfolding chunkOf lastsOf keep endsOf diffEndsFrom
+  no-chunk out h b = table-front 0 0 0 0 out b ∙ ap (λ (es : List Entry). over (chunkOf es) out) (sym (pick-nothing (retainedOf k corners w) h))

@@ -1,7 +1,7 @@
 -- Counting the items that pass, one by one.
 use Prim.Native.Nat.{ℕ, zero, suc, _+_, _-_, _<_, _≤_}
 use mathlib.Core.Path.{_≡_, refl, sym, _∙_, ap}
-use mathlib.Core.Bool.{Bool, true, false, cond}
+use mathlib.Core.Bool.{Bool, true, false, cond, _&&_}
 use mathlib.Core.List.{List, [], _∷_}
 use native.Mathlib.Omega.{arith}
 use lib.Dec.{ltb}
@@ -9,8 +9,9 @@ use lib.ListN.{length, getD, List·getD-eq-default}
 use borrow.Author.Tests.{lt-ltb, le-ltb, ltb-true, ltb-false}
 use Rattle.chunk.specs.declared.Range.{Range}
 use Rattle.chunk.specs.Contents.{startOf, childRange}
-use Rattle.laws.proofs.Tests.{by-test}
-use Rattle.retain.specs.Layers.{countKept, listKept, hasDiff}
+use Rattle.laws.proofs.Tests.{by-test, and-left, and-right}
+use Rattle.retain.specs.Layers.{countKept, listKept, hasDiff, ListsLeft}
+use Rattle.chunk.specs.Words.{risesFrom}
 
 -- one item more, counted or not
 pub count-turn : (m : ℕ → Bool) (i to : ℕ) → i < to → countKept m i (to - i) ≡ cond (m i) (suc (countKept m (i + 1) (to - (i + 1)))) (countKept m (i + 1) (to - (i + 1)))
@@ -100,3 +101,89 @@ count-past m from to i w h =
 pub list-any : (m : ℕ → Bool) (ends : List ℕ) (i : ℕ) (r : Range) (b : Bool) → r ≡ childRange ends i → b ≡ ltb 0 (countKept m (r .lower) (r .upper - r .lower))
     → listKept m ends i ≡ b
 list-any m ends i r b e q = list-left m ends i r (countKept m (r .lower) (r .upper - r .lower)) e refl ∙ sym q
+
+-- ---- lists and their items together
+
+count-add : (m : ℕ → Bool) (i a b : ℕ) → countKept m i (a + b) ≡ countKept m i a + countKept m (i + a) b
+unfolding countKept
+count-add m i zero b = let e : i ≡ i + 0 = omega arith in let z : 0 + b ≡ b = omega arith in (λ j. countKept m (e j) (z j)) ∙ omega arith
+count-add m i (suc a) b =
+    let e : suc i + a ≡ i + suc a = omega arith in
+    let z : suc a + b ≡ suc (a + b) = omega arith in
+    let ih : countKept m (suc i) (a + b) ≡ countKept m (suc i) a + countKept m (i + suc a) b = count-add m (suc i) a b ∙ ap (λ (x : ℕ). countKept m (suc i) a + countKept m x b) e in
+    ap (countKept m i) z ∙ by-test (m i) (λ k. simp k (omega arith)) (λ k. simp k (omega arith))
+
+-- a list that is there ends above its start
+start-below : (low : ℕ) (ends : List ℕ) (i : ℕ) → risesFrom low ends ≡ true → i < length ends → getD (low ∷ ends) i 0 < getD ends i 0
+unfolding risesFrom
+start-below low [] i r h = absurd (omega arith)
+start-below low (e ∷ ends) zero r h = ltb-true _ _ (and-left _ _ r)
+start-below low (e ∷ ends) (suc i) r h = start-below e ends i (and-right (ltb low e) _ r) (omega arith)
+
+start-as : (ends : List ℕ) (i : ℕ) → startOf ends i ≡ getD (0 ∷ ends) i 0
+start-as ends zero = refl
+start-as ends (suc i) = refl
+
+-- the lists before i, and their items
+pub record Listed (m : ℕ → Bool) (ends : List ℕ) (lists items i : ℕ) : Type 0 where
+  pub counted : Counted (listKept m ends) 0 (length ends) lists i
+  pub onward : i ≤ length ends
+  pub rising : risesFrom 0 ends ≡ true
+  pub sofar : items ≡ countKept m 0 (startOf ends i)
+
+pub listed-start : (m : ℕ → Bool) (ends : List ℕ) → risesFrom 0 ends ≡ true → Listed m ends 0 0 0
+unfolding countKept
+listed-start m ends r = record { counted = counted-start (listKept m ends) 0 (length ends); onward = omega arith; rising = r; sofar = refl }
+
+module _ (m : ℕ → Bool) (ends : List ℕ) (lists items i : ℕ) (w : Listed m ends lists items i) (h : i < length ends) (r : Range) (n : ℕ) (e : r ≡ childRange ends i)
+    (q : n ≡ countKept m (r .lower) (r .upper - r .lower)) where
+  range-is : (r .lower ≡ startOf ends i) × (r .upper ≡ getD ends i 0)
+  unfolding childRange
+  range-is = (range-lower ends i r e h, ap (λ (x : Range). x .upper) e ∙ simp (lt-ltb i (length ends) h))
+
+  pub listed-more : items + n ≡ countKept m 0 (getD ends i 0)
+  listed-more =
+      let b : startOf ends i < getD ends i 0 = rw start-as (start-below 0 ends i (w .rising) h) in
+      let z : startOf ends i + (getD ends i 0 - startOf ends i) ≡ getD ends i 0 = omega arith in
+      let y : 0 + startOf ends i ≡ startOf ends i = omega arith in
+      let s = w .sofar in
+      let qn : n ≡ countKept m (startOf ends i) (getD ends i 0 - startOf ends i) = q ∙ (λ j. countKept m (range-is .0 j) (range-is .1 j - range-is .0 j)) in
+      let t : countKept m 0 (getD ends i 0) ≡ countKept m 0 (startOf ends i) + countKept m (startOf ends i) (getD ends i 0 - startOf ends i) =
+      ap (countKept m 0) (sym z) ∙ count-add m 0 (startOf ends i) (getD ends i 0 - startOf ends i) ∙ ap (λ (x : ℕ). countKept m 0 (startOf ends i) + countKept m x (getD ends i 0 - startOf ends i)) y in
+      omega arith
+
+  pub listed-room : items + n ≤ r .upper
+  listed-room = let a = listed-more in let b = count-most m 0 (getD ends i 0) in let u = range-is .1 in omega arith
+
+  pub listed-in : 0 < n → Listed m ends (lists + 1) (items + n) (i + 1)
+  listed-in k =
+      let p : listKept m ends i ≡ true = list-left m ends i r n e q ∙ lt-ltb 0 n k in
+      let s : i + 1 ≡ suc i = omega arith in
+      record {
+        counted = counted-in (listKept m ends) 0 (length ends) lists i (w .counted) h p;
+        onward = omega arith;
+        rising = w .rising;
+        sofar = listed-more ∙ ap (λ (x : ℕ). countKept m 0 (startOf ends x)) (sym s);
+      }
+
+  pub listed-out : n ≤ 0 → Listed m ends lists items (i + 1)
+  listed-out k =
+      let p : listKept m ends i ≡ false = list-left m ends i r n e q ∙ le-ltb 0 n k in
+      let s : i + 1 ≡ suc i = omega arith in
+      let z : items ≡ items + n = omega arith in
+      record {
+        counted = counted-out (listKept m ends) 0 (length ends) lists i (w .counted) h p;
+        onward = omega arith;
+        rising = w .rising;
+        sofar = z ∙ listed-more ∙ ap (λ (x : ℕ). countKept m 0 (startOf ends x)) (sym s);
+      }
+
+pub listed-end : (m : ℕ → Bool) (ends : List ℕ) (lists items i : ℕ) → Listed m ends lists items i → length ends ≤ i → ListsLeft m ends lists items
+listed-end m ends lists items i w h =
+    let o = w .onward in
+    let e : i ≡ length ends = omega arith in
+    let z : length ends - 0 ≡ length ends = omega arith in
+    record {
+      lists = counted-end (listKept m ends) 0 (length ends) lists i (w .counted) h ∙ ap (countKept (listKept m ends) 0) z;
+      items = w .sofar ∙ ap (λ (x : ℕ). countKept m 0 (startOf ends x)) e;
+    }

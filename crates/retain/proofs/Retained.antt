@@ -17,7 +17,7 @@ use Rattle.laws.proofs.Tests.{by-test, and-left, and-right, and-both}
 use Rattle.laws.proofs.OneChunk.{front-is-chunk, bodies-in}
 use Rattle.laws.proofs.Layers.{Seven, ofEntries}
 use Rattle.laws.proofs.Frame.{inWords, parts}
-use Rattle.retain.specs.Layers.{countKept, pick, pickAt, countUp, nodes, itemOf, endOf, listKept, hasDiff, nodesOut, leavesOut, EndsWithin, EndsByOne, Bodies, Left, layersOut}
+use Rattle.retain.specs.Layers.{countKept, pick, pickAt, countUp, nodes, itemOf, endOf, listKept, hasDiff, nodesOut, leavesOut, EndsWithin, EndsByOne, ListsLeft, Bodies, Left, layersOut}
 use Rattle.retain.proofs.Filtered.{picked-keys, picked-valEnds, picked-vals, picked-timeEnds, pickAt-list, pickAt-diffs, picked-stands, length-pick, diffEnds-up, keep-all, nodes-pick, picked-few}
 use Rattle.retain.proofs.Counts.{count-most}
 
@@ -38,6 +38,16 @@ rise-count low [] top h = let e : low ≡ top = eqb-true _ _ h in omega arith
 rise-count low (e ∷ ends) top h =
     let i : e + length ends ≤ top = rise-count e ends top (and-right (ltb low e) _ h) in
     let l : low < e = ltb-true _ _ (and-left _ _ h) in omega arith
+
+-- and end with it
+last-end : (low : ℕ) (ends : List ℕ) (top : ℕ) → endsRise low ends top ≡ true → getD (low ∷ ends) (length ends) 0 ≡ top
+unfolding endsRise
+last-end low [] top h = eqb-true _ _ h
+last-end low (e ∷ ends) top h = last-end e ends top (and-right (ltb low e) _ h)
+
+rise-last : (ends : List ℕ) (top : ℕ) → endsRise 0 ends top ≡ true → startOf ends (length ends) ≡ top
+rise-last [] top h = last-end 0 [] top h
+rise-last (e ∷ ends) top h = last-end 0 (e ∷ ends) top h
 
 -- ends that step up to the last one are at most it
 step-low : (low : ℕ) (ends : List ℕ) (top : ℕ) → endsStep low ends top ≡ true → low ≤ top
@@ -198,16 +208,19 @@ module _ (w : List ℕ) (f : wellFormed w ≡ true) (leaf : ℕ → Bool) where
       let b : length (keep stands es) ≡ nd w = sym (length-map (keep stands es) (λ (e : Entry). e .diff)) ∙ ap length diffs-in ∙ length-diffs (contentsOf w) w its-place in
       let d = out-count in omega arith
 
-  pub its-left : (k v t room : ℕ) → k ≡ countKept keyStays 0 (length (keyBody w) - 0) → v ≡ countKept valueStays 0 (length (valBody w) - 0)
-      → t ≡ countKept timeStays 0 (length (timeBody w) - 0) → size w ≤ room
+  -- the lists and items counted are those of the bodies
+  its-keys : (k v : ℕ) → ListsLeft valueStays (valEndBody w) k v → k ≡ countKept keyStays 0 (length (keyBody w))
+  its-keys k v l = l .lists ∙ ap (countKept keyStays 0) (sym val-rows)
+
+  its-vals : (k v : ℕ) → ListsLeft valueStays (valEndBody w) k v → v ≡ countKept valueStays 0 (length (valBody w))
+  its-vals k v l = l .items ∙ ap (countKept valueStays 0) (rise-last (valEndBody w) (nv w) (parts w f .valEndsRise) ∙ sym (length-vals (contentsOf w) w its-place))
+
+  pub its-left : (k v t room : ℕ) → ListsLeft valueStays (valEndBody w) k v → t ≡ length fs → size w ≤ room
       → Left timeStays (keyBody w) (valEndBody w) (valBody w) (timeEndBody w) (timeBody w) k v t room
-  its-left k v t room hk hv ht h =
-      let zk : length (keyBody w) - 0 ≡ length (keyBody w) = omega arith in
-      let zv : length (valBody w) - 0 ≡ length (valBody w) = omega arith in
-      let zt : length (timeBody w) - 0 ≡ length (timeBody w) = omega arith in
-      let gk : k ≡ countKept keyStays 0 (length (keyBody w)) = hk ∙ ap (countKept keyStays 0) zk in
-      let gv : v ≡ countKept valueStays 0 (length (valBody w)) = hv ∙ ap (countKept valueStays 0) zv in
-      let gt : t ≡ countKept timeStays 0 (length (timeBody w)) = ht ∙ ap (countKept timeStays 0) zt in
+  its-left k v t room l ht h =
+      let gk : k ≡ countKept keyStays 0 (length (keyBody w)) = its-keys k v l in
+      let gv : v ≡ countKept valueStays 0 (length (valBody w)) = its-vals k v l in
+      let gt : t ≡ countKept timeStays 0 (length (timeBody w)) = ht ∙ out-count in
       let mk = count-most keyStays 0 (length (keyBody w)) in
       let mv = count-most valueStays 0 (length (valBody w)) in
       let mt = count-most timeStays 0 (length (timeBody w)) in
@@ -231,13 +244,8 @@ module _ (w : List ℕ) (f : wellFormed w ≡ true) (leaf : ℕ → Bool) where
       }
 
   -- what is written is the chunk
-  pub its-words : (k v t : ℕ) → k ≡ countKept keyStays 0 (length (keyBody w) - 0) → v ≡ countKept valueStays 0 (length (valBody w) - 0)
-      → t ≡ countKept timeStays 0 (length (timeBody w) - 0)
+  pub its-words : (k v t : ℕ) → ListsLeft valueStays (valEndBody w) k v → t ≡ length fs
       → layersOut timeStays (keyBody w) (valEndBody w) (valBody w) (timeEndBody w) (timeBody w) (diffEndBody w) (diffBody w) k v t ≡ chunkOf fs
-  its-words k v t hk hv ht =
-      let zk : length (keyBody w) - 0 ≡ length (keyBody w) = omega arith in
-      let zv : length (valBody w) - 0 ≡ length (valBody w) = omega arith in
-      let zt : length (timeBody w) - 0 ≡ length (timeBody w) = omega arith in
-      (λ i. layersOut timeStays (keyBody w) (valEndBody w) (valBody w) (timeEndBody w) (timeBody w) (diffEndBody w) (diffBody w)
-      ((hk ∙ ap (countKept keyStays 0) zk) i) ((hv ∙ ap (countKept valueStays 0) zv) i) ((ht ∙ ap (countKept timeStays 0) zt) i))
+  its-words k v t l ht =
+      (λ i. layersOut timeStays (keyBody w) (valEndBody w) (valBody w) (timeEndBody w) (timeBody w) (diffEndBody w) (diffBody w) (its-keys k v l i) (its-vals k v l i) ((ht ∙ out-count) i))
       ∙ sym retained

@@ -57,6 +57,11 @@ unfoldable pub listKept : (ℕ → Bool) → List ℕ → ℕ → Bool
 unfolding countKept
 listKept m ends i = ltb 0 (countKept m (startOf ends i) (getD ends i 0 - startOf ends i))
 
+-- how many lists have an item that passes, and how many items of theirs do
+pub record ListsLeft (m : ℕ → Bool) (ends : List ℕ) (l n : ℕ) : Type 0 where
+  pub lists : l ≡ countKept (listKept m ends) 0 (length ends)
+  pub items : n ≡ countKept m 0 (startOf ends (length ends))
+
 -- whether time i has a diff
 abbrev pub hasDiff : List ℕ → ℕ → Bool
 hasDiff diffEnds i = ltb (startOf diffEnds i) (getD diffEnds i 0)

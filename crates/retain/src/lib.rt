@@ -18,9 +18,8 @@ use climb::joins;
 use runs::copy;
 use runs::write_run;
 use stay::count_below;
-use stay::count_keys;
+use stay::count_lists;
 use stay::count_times;
-use stay::count_values;
 use stay::is_open;
 use stay::run_end;
 
@@ -41,6 +40,12 @@ pub enum Keep {
 pub enum Level {
     Values,
     Keys,
+}
+
+// How many keys and values are left.
+pub struct Lists {
+    pub keys: usize,
+    pub vals: usize,
 }
 
 // Writes a layer's items that have a list left, and after them the ends of those lists: the count of what stays up to each.
@@ -209,17 +214,9 @@ fn retain_some(
     let times = &words[times_at..diff_ends_at];
     let diff_ends = &words[diff_ends_at..diffs_at];
     let diffs = &words[diffs_at..size];
-    let nk = count_keys(
-        keep,
-        times,
-        corners,
-        diff_ends,
-        time_ends,
-        val_ends,
-        0,
-        keys.len(),
-    );
-    let nv = count_values(keep, times, corners, diff_ends, time_ends, 0, vals.len());
+    let left = count_lists(keep, times, corners, diff_ends, time_ends, val_ends);
+    let nk = left.keys;
+    let nv = left.vals;
     write_bodies(
         keep,
         corners,

@@ -7,9 +7,11 @@ ghost use lib.Dec.{ltb};
 ghost use Rattle.retain.specs.Frontier.{isOpen, ordered};
 ghost use Rattle.retain.specs.Found.{PartedAt};
 ghost use Rattle.retain.specs.Keep.{keepsAt, timeKept, below};
-ghost use Rattle.retain.specs.Layers.{countKept, listKept, KeptRun};
+ghost use Rattle.retain.specs.Layers.{countKept, listKept, KeptRun, ListsLeft};
+ghost use Rattle.chunk.specs.Words.{risesFrom};
 use crate::Keep;
 use crate::Level;
+use crate::Lists;
 
 // How many corners have an ignition at or below a time's.
 pub(crate) fn place_of(corners: &[u64], t: u64) -> usize
@@ -172,33 +174,34 @@ pub(crate) fn count_values(
     count
 }
 
-// How many of the keys have a value that stays.
-pub(crate) fn count_keys(
+// How many keys have a value that stays, and how many values do.
+pub(crate) fn count_lists(
     keep: Keep,
     times: &[u64],
     corners: &[u64],
     diff_ends: &[u64],
     time_ends: &[u64],
     val_ends: &[u64],
-    from: usize,
-    to: usize,
-) -> usize
+) -> Lists
     requires { ⌜ (length (now «diff_ends») ≤ length (now times)) × (ordered (now corners) ≡ true) ⌝ }
-    ensures { λ r. ⌜ r ≡ countKept (listKept (listKept (timeKept keep (now (times .entry)) (now (corners .entry)) (now («diff_ends» .entry))) (now («time_ends» .entry))) (now («val_ends» .entry))) from (to - from) ⌝ }
+    requires { ⌜ risesFrom 0 (now «val_ends») ≡ true ⌝ }
+    ensures { λ r. ⌜ ListsLeft (listKept (timeKept keep (now (times .entry)) (now (corners .entry)) (now («diff_ends» .entry))) (now («time_ends» .entry))) (now («val_ends» .entry)) (r .keys) (r .vals) ⌝ }
 {
-    let mut count = 0;
-    let mut i = from;
-    while i < to {
+    let mut keys = 0;
+    let mut vals = 0;
+    let mut i = 0;
+    while i < val_ends.len() {
         let list = chunk::child_range(val_ends, i);
         let lower = list.lower;
         let upper = list.upper;
         let left = count_values(keep, times, corners, diff_ends, time_ends, lower, upper);
         if 0 < left {
-            count += 1;
+            keys += 1;
+            vals += left;
         }
         i += 1;
     }
-    count
+    Lists { keys, vals }
 }
 
 // How many items stay of a list at this level.

@@ -6,15 +6,14 @@ use mathlib.Core.List.{List}
 use native.Mathlib.Omega.{arith}
 use lib.ListN.{length, take, drop}
 use Rattle.chunk.specs.declared.Contents.{Contents}
-use Rattle.chunk.specs.Words.{wellFormed, size, over, entries, timeBody, diffEndBody}
+use Rattle.chunk.specs.Words.{wellFormed, size, over, risesFrom, entries, timeBody, diffEndBody}
 use Rattle.chunk.specs.Bodies.{chunkOf}
 use Rattle.chunk.specs.Contents.{Placed}
 use Rattle.chunk.proofs.Placed.{cut-keys, cut-val-ends, cut-vals, cut-time-ends, cut-times, cut-diff-ends, cut-diffs, length-times, length-diff-ends}
 use Rattle.retain.specs.declared.Keep.{Keep}
 use Rattle.retain.specs.Keep.{keepsAt, timeKept, retainedOf}
-use Rattle.retain.specs.Layers.{countKept, listKept, pick, Bodies, Left, layersOut}
-use Rattle.retain.proofs.Retained.{its-bodies, its-left, its-words}
-use Rattle.retain.proofs.Whole.{items-count}
+use Rattle.retain.specs.Layers.{listKept, ListsLeft, Bodies, Left, layersOut}
+use Rattle.retain.proofs.Retained.{its-bodies, val-ends-rise, its-left, its-words}
 use borrow.Author.Needs.{needs}
 use Rattle.retain.proofs.retain_some.Statement.{statement}
 use Rattle.retain.proofs.retain_some.Tie as tie
@@ -56,23 +55,21 @@ module _ (found : Contents) (w : List ℕ) (p : Placed found w) (formed : wellFo
       rw (cut-keys found w p, cut-val-ends found w p, cut-vals found w p, cut-time-ends found w p, cut-times found w p, cut-diff-ends found w p, cut-diffs found w p)
       (its-bodies w formed (λ i. true))
 
-  left : (k v t room : ℕ) → k ≡ countKept (listKept (listKept stays timeEnds) valEnds) 0 (length keys - 0) → v ≡ countKept (listKept stays timeEnds) 0 (length vals - 0)
-      → t ≡ countKept stays 0 (length times - 0) → size w ≤ room → Left stays keys valEnds vals timeEnds times k v t room
+  rises : risesFrom 0 valEnds ≡ true
+  rises = rw (cut-val-ends found w p) (val-ends-rise w formed (λ i. true))
+
+  left : (k v t room : ℕ) → ListsLeft (listKept stays timeEnds) valEnds k v → t ≡ length (retainedOf keep corners w) → size w ≤ room → Left stays keys valEnds vals timeEnds times k v t room
+  unfolding retainedOf
   left =
       rw (cut-keys found w p, cut-val-ends found w p, cut-vals found w p, cut-time-ends found w p, cut-times found w p, cut-diff-ends found w p)
       (its-left w formed (keepsAt keep (timeBody w) corners))
 
-  in-words : (k v t : ℕ) → k ≡ countKept (listKept (listKept stays timeEnds) valEnds) 0 (length keys - 0) → v ≡ countKept (listKept stays timeEnds) 0 (length vals - 0)
-      → t ≡ countKept stays 0 (length times - 0)
-      → layersOut stays keys valEnds vals timeEnds times diffEnds diffs k v t ≡ chunkOf (pick (timeKept keep (timeBody w) corners (diffEndBody w)) 0 (entries w))
+  in-words : (k v t : ℕ) → ListsLeft (listKept stays timeEnds) valEnds k v → t ≡ length (retainedOf keep corners w)
+      → layersOut stays keys valEnds vals timeEnds times diffEnds diffs k v t ≡ chunkOf (retainedOf keep corners w)
+  unfolding retainedOf
   in-words =
       rw (cut-keys found w p, cut-val-ends found w p, cut-vals found w p, cut-time-ends found w p, cut-times found w p, cut-diff-ends found w p, cut-diffs found w p)
       (its-words w formed (keepsAt keep (timeBody w) corners))
-
-  words : (k v t : ℕ) (out : List ℕ) → k ≡ countKept (listKept (listKept stays timeEnds) valEnds) 0 (length keys - 0) → v ≡ countKept (listKept stays timeEnds) 0 (length vals - 0)
-      → t ≡ countKept stays 0 (length times - 0) → over (layersOut stays keys valEnds vals timeEnds times diffEnds diffs k v t) out ≡ over (chunkOf (retainedOf keep corners w)) out
-  unfolding retainedOf
-  words k v t out hk hv ht = ap (λ (l : List ℕ). over l out) (in-words k v t hk hv ht)
 
 mul-keys : tie.Need-mul-keys
 mul-keys c = search needs
@@ -158,26 +155,24 @@ part-diffs-start c = search needs
 part-diffs-end : tie.Need-part-diffs-end
 part-diffs-end c = search needs
 
-count-keys-requires : tie.Need-count-keys-requires
-count-keys-requires c κs = let a = c .before .before .before .before .before .before .before .before .before .before in (rows (a .args .found) (a .args .words .now) (a .pre .0 .1) (a .pre .0 .0) (a .args .keep) (a .args .corners .now), a .pre .1 .0 .0)
-
-count-values-requires : tie.Need-count-values-requires
-count-values-requires c κs = let a = c .before .before .before .before .before .before .before .before .before .before .before in (rows (a .args .found) (a .args .words .now) (a .pre .0 .1) (a .pre .0 .0) (a .args .keep) (a .args .corners .now), a .pre .1 .0 .0)
+count-lists-requires : tie.Need-count-lists-requires
+count-lists-requires c κs =
+    let a = c .before .before .before .before .before .before .before .before .before .before in
+    ((rows (a .args .found) (a .args .words .now) (a .pre .0 .1) (a .pre .0 .0) (a .args .keep) (a .args .corners .now), a .pre .1 .0 .0), rises (a .args .found) (a .args .words .now) (a .pre .0 .1) (a .pre .0 .0) (a .args .keep) (a .args .corners .now))
 
 write-bodies-requires : tie.Need-write-bodies-requires
 write-bodies-requires c κs =
-    let a = c .before .before .before .before .before .before .before .before .before .before .before .before .before in
-    let n = a .pre .1 .1 ∙ sym (items-count (a .args .found) (a .args .words .now) (a .args .keep) (a .args .corners .now) (a .pre .0 .1) (a .pre .0 .0)) in
-    (a .pre .1 .0 .0, (fit (a .args .found) (a .args .words .now) (a .pre .0 .1) (a .pre .0 .0) (a .args .keep) (a .args .corners .now), left (a .args .found) (a .args .words .now) (a .pre .0 .1) (a .pre .0 .0) (a .args .keep) (a .args .corners .now) _ _ _ _ (c .before .before .count-keys .ensures) (c .before .count-values .ensures) n (a .pre .1 .0 .1)))
+    let a = c .before .before .before .before .before .before .before .before .before .before .before .before in
+    (a .pre .1 .0 .0, (fit (a .args .found) (a .args .words .now) (a .pre .0 .1) (a .pre .0 .0) (a .args .keep) (a .args .corners .now), left (a .args .found) (a .args .words .now) (a .pre .0 .1) (a .pre .0 .0) (a .args .keep) (a .args .corners .now) _ _ _ _ (c .before .count-lists .ensures) (a .pre .1 .1) (a .pre .1 .0 .1)))
 
 same-length : tie.Need-same-length
 same-length c = search needs
 
 returns : tie.Need-returns
 returns c =
-    let a = c .before .before .before .before .before .before .before .before .before .before .before .before .before .before .before .before in
-    let n = a .pre .1 .1 ∙ sym (items-count (a .args .found) (a .args .words .now) (a .args .keep) (a .args .corners .now) (a .pre .0 .1) (a .pre .0 .0)) in
-    c .before .before .write-bodies .ensures ∙ words (a .args .found) (a .args .words .now) (a .pre .0 .1) (a .pre .0 .0) (a .args .keep) (a .args .corners .now) _ _ _ _ (c .before .before .before .before .before .count-keys .ensures) (c .before .before .before .before .count-values .ensures) n
+    let a = c .before .before .before .before .before .before .before .before .before .before .before .before .before .before .before in
+    c .before .before .write-bodies .ensures
+    ∙ ap (λ (l : List ℕ). over l (a .args .out .now)) (in-words (a .args .found) (a .args .words .now) (a .pre .0 .1) (a .pre .0 .0) (a .args .keep) (a .args .corners .now) _ _ _ (c .before .before .before .before .count-lists .ensures) (a .pre .1 .1))
 
 pub retain-some-spec : {M : Type 1} → statement M
 retain-some-spec =
@@ -211,8 +206,7 @@ retain-some-spec =
     sub-diffs
     part-diffs-start
     part-diffs-end
-    count-keys-requires
-    count-values-requires
+    count-lists-requires
     write-bodies-requires
     same-length
     returns)

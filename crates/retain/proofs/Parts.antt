@@ -1,14 +1,14 @@
 -- An output filled part by part: the table, then each layer where the last one ends.
-use Prim.Native.Nat.{ℕ, zero, suc, _+_, _-_, _*_, _<_, _≤_}
-use mathlib.Core.Path.{_≡_, refl, sym, _∙_, ap}
-use mathlib.Core.Bool.{Bool, true, false, cond, _&&_}
-use mathlib.Core.List.{List, [], _∷_, _++_, append-assoc}
+use Prim.Native.Nat.{ℕ, _+_, _-_, _*_, _≤_}
+use mathlib.Core.Path.{_≡_, sym, _∙_, ap}
+use mathlib.Core.List.{List, _++_, append-assoc}
 use native.Mathlib.Omega.{arith}
 use lib.ListN.{length, take, drop, length-append, length-drop}
 use lib.Seq.{take-at, drop-at, drop-drop, length-take-le}
-use lib.Dec.{leb}
+use mir.Val.{Fits}
+use mir.Syntax.{w64}
 use borrow.Author.Tests.{le-leb}
-use borrow.Rule.Slice.PartMut.{putMid, same-len-mid}
+use borrow.Rule.Slice.PartMut.{putMid}
 use Rattle.chunk.specs.declared.Contents.{Contents}
 use Rattle.chunk.specs.Words.{limit, tableSize, over}
 use Rattle.chunk.specs.Contents.{layoutWithin, layoutOf, withTable, tableOf}
@@ -33,6 +33,44 @@ spots lay k v t e a b d =
       timesAt = ap (λ (l : Contents). l .«times_at») q;
       sized = ap (λ (l : Contents). l .size) q;
     }
+
+-- the places of three parts behind the table, within so many words, and few
+pub record OutCuts (lay : Contents) (k v t room : ℕ) : Type 0 where
+  pub keysAt : lay .«keys_at» ≡ 4
+  pub keys : lay .«vals_at» ≡ lay .«keys_at» + (k + k)
+  pub vals : lay .«times_at» ≡ lay .«vals_at» + (v + v)
+  pub times : lay .size ≡ lay .«times_at» + (t + (t + t))
+  pub keysIn : lay .«vals_at» ≤ room
+  pub valsIn : lay .«times_at» ≤ room
+  pub timesIn : lay .size ≤ room
+  pub keysSmall : Fits w64 (lay .«keys_at» * 8)
+  pub valsSmall : Fits w64 (lay .«vals_at» * 8)
+  pub timesSmall : Fits w64 (lay .«times_at» * 8)
+  pub tableIn : 4 ≤ room
+
+pub out-cuts : (lay : Contents) (k v t room : ℕ) → lay ≡ layoutWithin k v t t → k ≤ limit → v ≤ limit → t ≤ limit → tableSize + 2 * k + 2 * v + 2 * t + t ≤ room → OutCuts lay k v t room
+out-cuts lay k v t room e a b d h =
+    let s = spots lay k v t e a b d in
+    let s1 = s .keysAt in let s2 = s .valsAt in let s3 = s .timesAt in let s4 = s .sized in
+    record {
+      keysAt = s1;
+      keys = omega arith;
+      vals = omega arith;
+      times = omega arith;
+      keysIn = omega arith;
+      valsIn = omega arith;
+      timesIn = omega arith;
+      keysSmall = omega arith;
+      valsSmall = omega arith;
+      timesSmall = omega arith;
+      tableIn = omega arith;
+    }
+
+pub up-to : (a b n : ℕ) → b ≡ a + n → a ≤ b
+up-to a b n e = omega arith
+
+pub within-as : (a n m : ℕ) → a ≤ n → m ≡ n → a ≤ m
+within-as a n m h e = omega arith
 
 -- the table at the front
 pub table-front : (k v t d : ℕ) (out : List ℕ) → 4 ≤ length out → withTable k v t d out ≡ tableOf k v t d ++ drop 4 out

@@ -1,22 +1,24 @@
 -- What is retained of a chunk: the layers that are written are the chunk of the entries that are picked.
-use Prim.Native.Nat.{ℕ, zero, suc, _+_, _-_, _*_, _<_, _≤_}
+use Prim.Native.Nat.{ℕ, zero, suc, _+_, _*_, _<_, _≤_}
 use mathlib.Core.Path.{_≡_, refl, sym, _∙_, ap}
-use mathlib.Core.Bool.{Bool, true, false, not, cond, _&&_, _||_}
+use mathlib.Core.Bool.{Bool, true, _&&_, _||_}
 use mathlib.Core.List.{List, [], _∷_, _++_, map, append-assoc}
 use native.Mathlib.Omega.{arith}
-use lib.Dec.{ltb, eqb, leb}
-use lib.ListN.{length, length-map, getD, drop, take}
+use lib.Dec.{ltb, eqb}
+use lib.ListN.{length, length-map, getD}
+use mir.Val.{Fits}
+use mir.Syntax.{w64}
 use Rattle.chunk.specs.Entry.{Entry, every, rising, stands, keep}
-use Rattle.chunk.specs.Bodies.{keys, vals, times, diffs, valEnds, timeEnds, diffEnds, diffEndsFrom, chunkOf}
-use Rattle.chunk.specs.Words.{wellFormed, entries, keyBody, valEndBody, valBody, timeEndBody, timeBody, diffEndBody, diffBody, nk, nv, nt, nd, limit, endsRise, endsStep, risesFrom, size, tableSize}
+use Rattle.chunk.specs.Bodies.{keys, vals, times, diffs, valEnds, timeEnds, diffEnds, chunkOf}
+use Rattle.chunk.specs.Words.{wellFormed, entries, keyBody, valEndBody, valBody, timeEndBody, timeBody, diffEndBody, diffBody, nk, nv, nt, nd, limit, endsRise, endsStep, risesFrom, size}
+use Rattle.chunk.specs.declared.Contents.{Contents}
 use Rattle.chunk.specs.Contents.{startOf, tableOf, contentsOf, Placed}
 use Rattle.chunk.proofs.Placed.{placed, length-keys, length-val-ends, length-vals, length-time-ends, length-times, length-diff-ends, length-diffs}
 use borrow.Author.Tests.{ltb-true, eqb-true, leb-true}
-use Rattle.laws.specs.OneChunk.{Fronts}
 use Rattle.laws.proofs.Tests.{by-test, and-left, and-right, and-both}
 use Rattle.laws.proofs.OneChunk.{front-is-chunk, bodies-in}
-use Rattle.laws.proofs.Layers.{Seven, ofEntries}
-use Rattle.laws.proofs.Frame.{inWords, parts}
+use Rattle.laws.proofs.Layers.{Seven}
+use Rattle.laws.proofs.Frame.{parts}
 use Rattle.retain.specs.Layers.{countKept, pick, pickAt, countUp, nodes, itemOf, endOf, listKept, hasDiff, nodesOut, leavesOut, EndsWithin, EndsByOne, ListsLeft, Bodies, Left, layersOut}
 use Rattle.retain.proofs.Filtered.{picked-keys, picked-valEnds, picked-vals, picked-timeEnds, pickAt-list, pickAt-diffs, picked-stands, length-pick, diffEnds-up, keep-all, nodes-pick, picked-few}
 use Rattle.retain.proofs.Counts.{count-most}
@@ -79,6 +81,21 @@ step-one low (e ∷ ends) top (suc i) h k = step-one e ends top i (and-right (eq
 step-by-one : (ends : List ℕ) (top : ℕ) → endsStep 0 ends top ≡ true → EndsByOne ends
 step-by-one ends top h zero k = step-one 0 ends top 0 h (ltb-true _ _ k)
 step-by-one ends top h (suc i) k = step-one 0 ends top (suc i) h (ltb-true _ _ k)
+
+-- the places of the bodies rise within so many words, and are few
+pub record Cuts (found : Contents) (n : ℕ) : Type 0 where
+  pub keys : found .«keys_at» ≤ found .«val_ends_at»
+  pub valEnds : found .«val_ends_at» ≤ found .«vals_at»
+  pub vals : found .«vals_at» ≤ found .«time_ends_at»
+  pub timeEnds : found .«time_ends_at» ≤ found .«times_at»
+  pub times : found .«times_at» ≤ found .«diff_ends_at»
+  pub diffEnds : found .«diff_ends_at» ≤ found .«diffs_at»
+  pub diffs : found .«diffs_at» ≤ found .size
+  pub whole : found .size ≤ n
+  pub small : found .«diffs_at» < 16777216
+
+pub scaled : (a d : ℕ) → a ≤ d → d < 16777216 → Fits w64 (a * 8)
+scaled a d h k = omega arith
 
 module _ (w : List ℕ) (f : wellFormed w ≡ true) (leaf : ℕ → Bool) where
   abbrev es : List Entry
@@ -214,6 +231,31 @@ module _ (w : List ℕ) (f : wellFormed w ≡ true) (leaf : ℕ → Bool) where
 
   its-vals : (k v : ℕ) → ListsLeft valueStays (valEndBody w) k v → v ≡ countKept valueStays 0 (length (valBody w))
   its-vals k v l = l .items ∙ ap (countKept valueStays 0) (rise-last (valEndBody w) (nv w) (parts w f .valEndsRise) ∙ sym (length-vals (contentsOf w) w its-place))
+
+  -- no more keys than values, and no more values than times
+  keys-few : nk w ≤ nv w
+  keys-few = let a = rise-count 0 (valEndBody w) (nv w) (parts w f .valEndsRise) in let b = length-val-ends (contentsOf w) w its-place in omega arith
+
+  vals-few : nv w ≤ nt w
+  vals-few = let a = rise-count 0 (timeEndBody w) (nt w) (parts w f .timeEndsRise) in let b = length-time-ends (contentsOf w) w its-place in omega arith
+
+  -- where the words are cut
+  pub its-cuts : (found : Contents) → Placed found w → Cuts found (length w)
+  its-cuts found p =
+      let k = keys-few in
+      let v = vals-few in
+      let t : nt w ≤ limit = leb-true _ _ (parts w f .few) in
+      record {
+        keys = omega (arith, p .keysAt, p .valEndsAt);
+        valEnds = omega (arith, p .valEndsAt, p .valsAt);
+        vals = omega (arith, p .valsAt, p .timeEndsAt);
+        timeEnds = omega (arith, p .timeEndsAt, p .timesAt);
+        times = omega (arith, p .timesAt, p .diffEndsAt);
+        diffEnds = omega (arith, p .diffEndsAt, p .diffsAt);
+        diffs = omega (arith, p .diffsAt, p .sized);
+        whole = omega (arith, p .sized, p .within);
+        small = omega (arith, p .diffsAt);
+      }
 
   pub its-left : (k v t room : ℕ) → ListsLeft valueStays (valEndBody w) k v → t ≡ length fs → size w ≤ room
       → Left timeStays (keyBody w) (valEndBody w) (valBody w) (timeEndBody w) (timeBody w) k v t room

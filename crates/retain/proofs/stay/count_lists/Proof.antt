@@ -1,5 +1,5 @@
 -- `retain::stay::count_lists` meets its contract: what is counted and what is left to count is the count of all.
-use Prim.Native.Nat.{ℕ, _+_, _-_, _<_, _≤_}
+use Prim.Native.Nat.{_-_}
 use mathlib.Core.Logic.{⊎-elim}
 use native.Mathlib.Omega.{arith}
 use lib.ListN.{length}
@@ -9,10 +9,6 @@ use Rattle.retain.proofs.Counts.{Listed, listed-start, listed-room, lis
 use borrow.Author.Needs.{needs}
 use Rattle.retain.proofs.stay.count_lists.Statement.{statement}
 use Rattle.retain.proofs.stay.count_lists.Tie as tie
-use Rattle.retain.proofs.stay.count_lists.Reads as reads
-use Rattle.retain.proofs.stay.count_lists.Lts as lts
-use Rattle.chunk.proofs.child_range.Reads as child-range-reads
-use Rattle.retain.proofs.stay.count_values.Reads as count-values-reads
 
 abbrev Inv-loop : tie.InvT-loop
 Inv-loop keep times corners diff-ends time-ends val-ends keys₀ vals₀ i₀ keys vals i = Listed (listKept (timeKept keep times corners diff-ends) time-ends) val-ends keys vals i

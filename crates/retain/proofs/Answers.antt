@@ -1,27 +1,25 @@
 -- The answer of extract, from what its parts found.
-use Prim.Native.Nat.{ℕ, zero, suc, _+_, _<_, _≤_}
+use Prim.Native.Nat.{ℕ, _+_}
 use mathlib.Core.Path.{_≡_, refl, sym, _∙_, ap}
-use mathlib.Core.Bool.{Bool, true, false, not, cond}
-use mathlib.Core.List.{List, [], _∷_, map}
+use mathlib.Core.Bool.{Bool, true, false}
+use mathlib.Core.List.{List, [], _∷_}
 use native.Mathlib.Omega.{arith}
 use lib.Dec.{eqb, ltb, leb}
 use lib.ListN.{length}
 use borrow.Author.Tests.{eq-eqb, ne-eqb, eqb-true, eqb-false, leb-true, leb-false, lt-ltb, le-ltb}
-use Rattle.chunk.specs.Entry.{Entry, keep, every}
+use Rattle.chunk.specs.Entry.{Entry, keep}
 use Rattle.chunk.specs.Bodies.{times, chunkOf}
 use Rattle.chunk.specs.Words.{over}
 use Rattle.chunk.specs.Refusal.{written}
 use Rattle.laws.proofs.Tests.{by-test}
-use Rattle.retain.specs.declared.Extracted.{Extracted}
 use Rattle.retain.specs.declared.Corners.{Corners}
 use Rattle.retain.specs.declared.Verdict.{Verdict}
-use Rattle.retain.specs.declared.Verdict.the-variants.{AllKept, AllShipped, Mixed}
 use Rattle.retain.specs.Frontier.{isOpen, leastOf, most}
 use Rattle.retain.specs.Extract.{keptOf, shippedOf, frontierOf, verdict}
-use Rattle.retain.specs.Found.{frontierWith, cornersOf, cornersAs}
-use Rattle.retain.specs.Answer.{verdictAs, verdictBy, refusedBy, extractedAs, tooMany, Parted}
+use Rattle.retain.specs.Found.{cornersOf, cornersAs}
+use Rattle.retain.specs.Answer.{verdictAs, verdictBy, refusedBy, extractedAs, Parted}
 
-keep-times : (q : ℕ → Bool) (es : List Entry) → times (keep (λ (e : Entry). q (e .time)) es) ≡ keep q (times es)
+pub keep-times : (q : ℕ → Bool) (es : List Entry) → times (keep (λ (e : Entry). q (e .time)) es) ≡ keep q (times es)
 unfolding keep
 keep-times q [] = refl
 keep-times q (e ∷ es) = by-test (q (e .time)) (λ h. simp (h, keep-times q es)) (λ h. simp (h, keep-times q es))

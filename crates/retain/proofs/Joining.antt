@@ -19,16 +19,16 @@ use Rattle.retain.proofs.Alone.{has, has-head, has-insert, has-keep, ha
 -- ---- members
 
 -- one that passes
-record Member (p : ℕ → Bool) (l : List ℕ) : Type 0 where
-  value : ℕ
-  among : has value l ≡ true
-  passes : p value ≡ true
+pub record Member (p : ℕ → Bool) (l : List ℕ) : Type 0 where
+  pub value : ℕ
+  pub among : has value l ≡ true
+  pub passes : p value ≡ true
 
 has-later : (t x : ℕ) (l : List ℕ) → has t l ≡ true → has t (x ∷ l) ≡ true
 unfolding any
 has-later t x l h = by-test (eqb t x) (λ k. simp k) (λ k. simp (k, h))
 
-member : (p : ℕ → Bool) (l : List ℕ) → any p l ≡ true → Member p l
+pub member : (p : ℕ → Bool) (l : List ℕ) → any p l ≡ true → Member p l
 unfolding any
 member p [] h = absurd (true-not-false (sym h))
 member p (a ∷ l) h =
@@ -69,7 +69,7 @@ head-or t x l P h f g = by-test (eqb t x) (λ k. f (eqb-true _ _ k)) (λ k. g (s
 below-self : (t : ℕ) → atOrBelow t t ≡ true
 below-self t = and-both _ _ (le-leb (ignition t) (ignition t) (omega arith)) (le-leb (tick t) (tick t) (omega arith))
 
-below-trans : (a b d : ℕ) → atOrBelow a b ≡ true → atOrBelow b d ≡ true → atOrBelow a d ≡ true
+pub below-trans : (a b d : ℕ) → atOrBelow a b ≡ true → atOrBelow b d ≡ true → atOrBelow a d ≡ true
 below-trans a b d h k =
     let i1 : ignition a ≤ ignition b = leb-true _ _ (and-left _ _ h) in
     let i2 : ignition b ≤ ignition d = leb-true _ _ (and-left _ _ k) in
@@ -145,7 +145,7 @@ has-joined x t corners =
     has-insert x t (keep (λ (s : ℕ). not (atOrBelow t s)) corners)
     ∙ ap (λ (b : Bool). eqb x t || b) (has-keep (λ (s : ℕ). not (atOrBelow t s)) x corners)
 
-joined-or : (x t : ℕ) (corners : List ℕ) (P : Type 0) → has x (joined t corners) ≡ true → (x ≡ t → P) → (has x corners ≡ true → P) → P
+pub joined-or : (x t : ℕ) (corners : List ℕ) (P : Type 0) → has x (joined t corners) ≡ true → (x ≡ t → P) → (has x corners ≡ true → P) → P
 joined-or x t corners P h f g =
     by-test (eqb x t) (λ e. f (eqb-true _ _ e)) (λ e.
     let k : (eqb x t || (has x corners && not (atOrBelow t x))) ≡ true = sym (has-joined x t corners) ∙ h in

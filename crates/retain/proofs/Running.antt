@@ -1,20 +1,24 @@
 -- One look over the times: the corners of the times so far, with the open times that are left, have the least times of all.
-use Prim.Native.Nat.{ℕ, _+_, _-_, _<_, _≤_}
+use Prim.Native.Nat.{ℕ, suc, _+_, _-_, _<_, _≤_}
 use mathlib.Core.Path.{_≡_, refl, sym, _∙_, ap}
-use mathlib.Core.Bool.{Bool, true, false, not, cond, _&&_}
+use mathlib.Core.Bool.{Bool, true, false, not, cond}
 use mathlib.Core.List.{List, [], _∷_, _++_, append-nil}
 use native.Mathlib.Omega.{arith}
 use native.Mathlib.Numerals.{add-one}
 use lib.Dec.{leb}
 use lib.ListN.{length, take, drop, getD, replicate, length-append, length-replicate, drop-of-length-le}
 use lib.Seq.{drop-cons, take-append-seam}
-use borrow.Author.Tests.{le-leb, not-true}
+use borrow.Author.Tests.{le-leb}
 use Rattle.chunk.specs.Entry.{keep}
-use Rattle.laws.proofs.Tests.{by-test, and-left, and-right, true-not-false}
+use Rattle.laws.proofs.Tests.{true-not-false}
 use Rattle.retain.specs.declared.Corners.{Corners}
-use Rattle.retain.specs.Frontier.{isOpen, ordered, leastOf, places}
-use Rattle.retain.specs.Found.{Standing, Joined, joined, cornersOf, cornersAs}
-use Rattle.retain.proofs.Joining.{pass-over, put-among, joined-ordered, ordered-least}
+use Rattle.retain.specs.declared.Kept.{Kept}
+use Rattle.retain.specs.declared.Frontier.{Frontier}
+use Rattle.retain.specs.Frontier.{any, isOpen, ordered, leastOf, places}
+use Rattle.retain.specs.Found.{Standing, Joined, joined, cornersOf, cornersAs, frontierWith, keptBy}
+use Rattle.retain.proofs.Joining.{member, below-trans, joined-or, pass-over, put-among, joined-ordered, ordered-least}
+use Rattle.chunk.specs.Time.{atOrBelow}
+use Rattle.retain.proofs.Alone.{has, some-has}
 use Rattle.retain.proofs.Spots.{standing-length}
 
 keep-next : (p : ℕ → Bool) (l : List ℕ) (i : ℕ) → i < length l → keep p (drop i l) ≡ cond (p (getD l i 0)) (getD l i 0 ∷ keep p (drop (i + 1) l)) (keep p (drop (i + 1) l))
@@ -25,65 +29,124 @@ keep-nil : (p : ℕ → Bool) → keep p [] ≡ []
 unfolding keep
 keep-nil p = refl
 
+-- a time with an open corner at or below it is open
+open-through : (upper corners : List ℕ) (t : ℕ) → ((x : ℕ) → has x corners ≡ true → isOpen upper x ≡ true) → isOpen corners t ≡ true → isOpen upper t ≡ true
+unfolding isOpen
+open-through upper corners t f h =
+    let m = member (λ (s : ℕ). atOrBelow s t) corners h in
+    let n = member (λ (s : ℕ). atOrBelow s (m .value)) upper (f (m .value) (m .among)) in
+    some-has (λ (s : ℕ). atOrBelow s t) (n .value) upper (n .among) (below-trans (n .value) (m .value) t (n .passes) (m .passes))
+
 module _ (upper times : List ℕ) where
-  pub record Running (corners : List ℕ) (count i : ℕ) : Type 0 where
-    pub standing : Standing corners count
+  -- the open times from i on
+  abbrev rest : ℕ → List ℕ
+  rest i = keep (isOpen upper) (drop i times)
+
+  rest-in : (i : ℕ) → i < length times → isOpen upper (getD times i 0) ≡ true → rest i ≡ getD times i 0 ∷ rest (i + 1)
+  rest-in i h o = keep-next (isOpen upper) times i h ∙ simp o
+
+  rest-out : (i : ℕ) → i < length times → isOpen upper (getD times i 0) ≡ false → rest i ≡ rest (i + 1)
+  rest-out i h o = keep-next (isOpen upper) times i h ∙ simp o
+
+  rest-end : (i : ℕ) → length times ≤ i → rest i ≡ []
+  rest-end i h = ap (keep (isOpen upper)) (drop-of-length-le times h) ∙ keep-nil (isOpen upper)
+
+  -- counted so far, with those left
+  pub record Opened (number i : ℕ) : Type 0 where
     pub onward : i ≤ length times
-    pub whole : leastOf (keep (isOpen upper) times) ≡ leastOf (take count corners ++ keep (isOpen upper) (drop i times))
+    pub few : number ≤ i
+    pub counted : length (keep (isOpen upper) times) ≡ number + length (rest i)
 
-  pub running-start : Running (replicate 128 0) 0 0
+  pub opened-start : Opened 0 0
+  opened-start = record { onward = omega arith; few = omega arith; counted = omega arith }
+
+  pub opened-in : (number i : ℕ) → Opened number i → i < length times → isOpen upper (getD times i 0) ≡ true → Opened (number + 1) (i + 1)
+  opened-in number i w h o =
+      let f = w .few in let q = w .counted in let e : length (rest i) ≡ suc (length (rest (i + 1))) = ap length (rest-in i h o) in
+      record { onward = omega arith; few = omega arith; counted = omega arith }
+
+  pub opened-out : (number i : ℕ) → Opened number i → i < length times → isOpen upper (getD times i 0) ≡ false → Opened number (i + 1)
+  opened-out number i w h o =
+      let f = w .few in let q = w .counted in let e : length (rest i) ≡ length (rest (i + 1)) = ap length (rest-out i h o) in
+      record { onward = omega arith; few = omega arith; counted = omega arith }
+
+  pub opened-end : (number i : ℕ) → Opened number i → length times ≤ i → number ≡ length (keep (isOpen upper) times)
+  opened-end number i w h = let q = w .counted in let e : length (rest i) ≡ 0 = ap length (rest-end i h) in omega arith
+
+  pub record Running (corners : List ℕ) (count number i : ℕ) : Type 0 where
+    pub opened : Opened number i
+    pub standing : Standing corners count
+    pub among : (x : ℕ) → has x (take count corners) ≡ true → isOpen upper x ≡ true
+    pub whole : leastOf (keep (isOpen upper) times) ≡ leastOf (take count corners ++ rest i)
+
+  no-corner : (x : ℕ) → has x (take 0 (replicate 128 0)) ≡ true → isOpen upper x ≡ true
+  unfolding any
+  no-corner x h = absurd (true-not-false (sym h))
+
+  pub running-start : Running (replicate 128 0) 0 0 0
   unfolding ordered
-  running-start = record { standing = record { within = omega arith; size = refl; filled = refl; stairs = refl }; onward = omega arith; whole = refl }
+  running-start = record { opened = opened-start; standing = record { within = omega arith; size = refl; filled = refl; stairs = refl }; among = no-corner; whole = refl }
 
-  -- a time that is not open, or that has a corner at or below it
-  pub running-over : (corners : List ℕ) (count i : ℕ) → Running corners count i → i < length times
-      → (not (isOpen (take count corners) (getD times i 0)) && isOpen upper (getD times i 0)) ≡ false → Running corners count (i + 1)
-  running-over corners count i w h q =
-      record { standing = w .standing; onward = omega arith; whole = w .whole ∙ over (take count corners) (getD times i 0) q }
-    where
-      over : (s : List ℕ) (t : ℕ) → (not (isOpen s (getD times i 0)) && isOpen upper (getD times i 0)) ≡ false
-          → leastOf (s ++ keep (isOpen upper) (drop i times)) ≡ leastOf (s ++ keep (isOpen upper) (drop (i + 1) times))
-      over s t q =
-          by-test (isOpen upper (getD times i 0))
-          (λ o. ap (λ (l : List ℕ). leastOf (s ++ l)) (keep-next (isOpen upper) times i h ∙ simp o)
-          ∙ pass-over s (keep (isOpen upper) (drop (i + 1) times)) (getD times i 0)
-          (by-test (isOpen s (getD times i 0)) (λ d. d) (λ d. absurd (true-not-false (simp (o, d) at q)))))
-          (λ o. ap (λ (l : List ℕ). leastOf (s ++ l)) (keep-next (isOpen upper) times i h ∙ simp o))
+  module _ (corners : List ℕ) (count number i : ℕ) (w : Running corners count number i) (h : i < length times) where
+    -- a time that has a corner at or below it
+    pub running-over : isOpen (take count corners) (getD times i 0) ≡ true → Running corners count (number + 1) (i + 1)
+    running-over d =
+        let o : isOpen upper (getD times i 0) ≡ true = open-through upper (take count corners) (getD times i 0) (w .among) d in
+        record {
+          opened = opened-in number i (w .opened) h o;
+          standing = w .standing;
+          among = w .among;
+          whole = w .whole ∙ ap (λ (l : List ℕ). leastOf (take count corners ++ l)) (rest-in i h o) ∙ pass-over (take count corners) (rest (i + 1)) (getD times i 0) d;
+        }
 
-  -- an open time with none at or below it
-  pub running-on : (corners : List ℕ) (count i : ℕ) (r : ℕ) (after : List ℕ) → Running corners count i → i < length times
-      → (not (isOpen (take count corners) (getD times i 0)) && isOpen upper (getD times i 0)) ≡ true
-      → Joined (getD times i 0) (take count corners) r after → r ≤ 128 → Running after r (i + 1)
-  running-on corners count i r after w h q j b =
-      let t : ℕ = getD times i 0 in
-      let s : List ℕ = take count corners in
-      let o : isOpen upper t ≡ true = and-right (not (isOpen s t)) _ q in
-      let shut : isOpen s t ≡ false = not-true _ (and-left _ _ q) in
-      let n : r ≡ length (joined t s) = j .number in
-      let f : after ≡ places (joined t s) = j .standing b in
-      let front : take r after ≡ joined t s = (λ k. take (n k) (f k)) ∙ take-append-seam (joined t s) (replicate (128 - length (joined t s)) 0) in
-      record {
-        standing = record {
-          within = b;
-          size = ap length f ∙ length-append (joined t s) (replicate (128 - length (joined t s)) 0)
-              ∙ ap (λ (k : ℕ). length (joined t s) + k) (length-replicate {A = ℕ} (128 - length (joined t s)) 0) ∙ omega arith;
-          filled = f ∙ ap places (sym front);
-          stairs = ap ordered front ∙ joined-ordered s t (w .standing .stairs) shut;
-        };
-        onward = omega arith;
-        whole =
-            w .whole ∙ ap (λ (l : List ℕ). leastOf (s ++ l)) (keep-next (isOpen upper) times i h ∙ simp o)
-            ∙ put-among s (keep (isOpen upper) (drop (i + 1) times)) t
-            ∙ ap (λ (l : List ℕ). leastOf (l ++ keep (isOpen upper) (drop (i + 1) times))) (sym front);
-      }
+    -- one that is not open
+    pub running-out : isOpen upper (getD times i 0) ≡ false → Running corners count number (i + 1)
+    running-out o =
+        record {
+          opened = opened-out number i (w .opened) h o;
+          standing = w .standing;
+          among = w .among;
+          whole = w .whole ∙ ap (λ (l : List ℕ). leastOf (take count corners ++ l)) (rest-out i h o);
+        }
 
-  pub running-end : (corners : List ℕ) (count i : ℕ) → Running corners count i → length times ≤ i
-      → _≡_ {A = Corners} (record { fits = true; frontier = record { count = count; corners = corners } }) (cornersOf (leastOf (keep (isOpen upper) times)))
-  running-end corners count i w h =
+    -- an open one with none at or below it
+    pub running-on : (r : ℕ) (after : List ℕ) → isOpen (take count corners) (getD times i 0) ≡ false → isOpen upper (getD times i 0) ≡ true
+        → Joined (getD times i 0) (take count corners) r after → r ≤ 128 → Running after r (number + 1) (i + 1)
+    running-on r after shut o j b =
+        let t : ℕ = getD times i 0 in
+        let s : List ℕ = take count corners in
+        let n : r ≡ length (joined t s) = j .number in
+        let f : after ≡ places (joined t s) = j .standing b in
+        let front : take r after ≡ joined t s = (λ k. take (n k) (f k)) ∙ take-append-seam (joined t s) (replicate (128 - length (joined t s)) 0) in
+        record {
+          opened = opened-in number i (w .opened) h o;
+          standing = record {
+            within = b;
+            size = ap length f ∙ length-append (joined t s) (replicate (128 - length (joined t s)) 0)
+                ∙ ap (λ (k : ℕ). length (joined t s) + k) (length-replicate {A = ℕ} (128 - length (joined t s)) 0) ∙ omega arith;
+            filled = f ∙ ap places (sym front);
+            stairs = ap ordered front ∙ joined-ordered s t (w .standing .stairs) shut;
+          };
+          among = λ x m. joined-or x t s _ (ap (has x) (sym front) ∙ m) (λ e. ap (isOpen upper) e ∙ o) (w .among x);
+          whole =
+              w .whole ∙ ap (λ (l : List ℕ). leastOf (s ++ l)) (rest-in i h o)
+              ∙ put-among s (rest (i + 1)) t
+              ∙ ap (λ (l : List ℕ). leastOf (l ++ rest (i + 1))) (sym front);
+        }
+
+  pub running-end : (corners : List ℕ) (count number i : ℕ) → Running corners count number i → length times ≤ i
+      → _≡_ {A = Kept} (record { fits = true; number = number; frontier = record { count = count; corners = corners } }) (keptBy (keep (isOpen upper) times))
+  running-end corners count number i w h =
       let s : List ℕ = take count corners in
       let n : length s ≡ count = standing-length corners count (w .standing) in
-      let none : keep (isOpen upper) (drop i times) ≡ [] = ap (keep (isOpen upper)) (drop-of-length-le times h) ∙ keep-nil (isOpen upper) in
-      let l : leastOf (keep (isOpen upper) times) ≡ s = w .whole ∙ ap (λ (x : List ℕ). leastOf (s ++ x)) none ∙ ap leastOf (append-nil s) ∙ ordered-least s (w .standing .stairs) in
+      let l : leastOf (keep (isOpen upper) times) ≡ s = w .whole ∙ ap (λ (x : List ℕ). leastOf (s ++ x)) (rest-end i h) ∙ ap leastOf (append-nil s) ∙ ordered-least s (w .standing .stairs) in
       let b : leb (length s) 128 ≡ true = le-leb (length s) 128 (omega (arith, w .standing .within)) in
-      (λ k. record { fits = true; frontier = record { count = sym n k; corners = w .standing .filled k } })
-      ∙ ap (λ (x : Bool). cornersAs x s) (sym b) ∙ ap cornersOf (sym l)
+      let c : cornersAs true s ≡ cornersOf (leastOf (keep (isOpen upper) times)) = ap (λ (x : Bool). cornersAs x s) (sym b) ∙ ap cornersOf (sym l) in
+      (λ k. record { fits = c k .fits; number = opened-end number i (w .opened) h k; frontier = (filled ∙ ap (λ (x : Corners). x .frontier) c) k })
+    where
+      filled : _≡_ {A = Frontier} (record { count = count; corners = corners }) (frontierWith (take count corners))
+      filled = λ k. record { count = sym (standing-length corners count (w .standing)) k; corners = w .standing .filled k }
+
+-- the same from its parts
+pub kept-parts : (ts : List ℕ) (r : Corners) (number : ℕ) → r ≡ cornersOf (leastOf ts) → number ≡ length ts → _≡_ {A = Kept} (record { fits = r .fits; number = number; frontier = r .frontier }) (keptBy ts)
+kept-parts ts r number e h = λ k. record { fits = e k .fits; number = h k; frontier = e k .frontier }

@@ -12,7 +12,8 @@ use Rattle.chunk.specs.Time.{atOrBelow}
 use Rattle.retain.specs.declared.Frontier.{Frontier}
 use Rattle.retain.specs.declared.Least.{Least}
 use Rattle.retain.specs.declared.Corners.{Corners}
-use Rattle.retain.specs.Frontier.{isOpen, ordered, places, most, insertTime}
+use Rattle.retain.specs.declared.Kept.{Kept}
+use Rattle.retain.specs.Frontier.{isOpen, ordered, places, most, insertTime, leastOf}
 
 -- a frontier with these corners, the places past them zero
 abbrev pub frontierWith : List ℕ → Frontier
@@ -40,6 +41,10 @@ cornersAs false l = record { fits = false; frontier = emptyFrontier }
 -- by their number
 abbrev pub cornersOf : List ℕ → Corners
 cornersOf l = cornersAs (leb (length l) most) l
+
+-- of the open times: how many, and their frontier
+abbrev pub keptBy : List ℕ → Kept
+keptBy ts = record { fits = cornersOf (leastOf ts) .fits; number = length ts; frontier = cornersOf (leastOf ts) .frontier }
 
 -- the corners before place n, and those from it on, by a time's ignition
 pub record PartedAt (corners : List ℕ) (t n : ℕ) : Type 0 where

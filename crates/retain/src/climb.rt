@@ -1,24 +1,12 @@
 // The corners of the times so far, while they are looked over: where a time belongs among them, and which of them it takes the place of.
 ghost use mathlib.Core.Path.{_≡_};
-ghost use mathlib.Core.Bool.{true, false, not, _&&_};
+ghost use mathlib.Core.Bool.{true, false};
 ghost use mathlib.Core.List.{_++_, _∷_};
 ghost use Prim.Native.Nat.{ℕ, _+_, _-_, _≤_, _<_};
 ghost use lib.ListN.{length, take, drop, replicate};
 ghost use Rattle.retain.specs.Frontier.{isOpen, ordered};
 ghost use Rattle.retain.specs.Found.{Before, Passed, Standing, Joined};
-use crate::stay::is_open;
 use crate::stay::place_of;
-
-// Whether a time is open and no corner so far is at or below it.
-pub(crate) fn joins(upper: &[u64], corners: &[u64], t: u64) -> bool
-    requires { ⌜ (ordered (now upper) ≡ true) × (ordered (now corners) ≡ true) ⌝ }
-    ensures { λ r. ⌜ r ≡ (not (isOpen (now (corners .entry)) t) && isOpen (now (upper .entry)) t) ⌝ }
-{
-    if is_open(corners, t) {
-        return false;
-    }
-    is_open(upper, t)
-}
 
 // Where a time belongs that no corner is at or below: behind the corners of a lower ignition.
 fn first_at(corners: &[u64], t: u64) -> usize

@@ -3,7 +3,7 @@ ghost use mathlib.Core.Bool.{true, false};
 ghost use Prim.Native.Nat.{ℕ, _+_, _-_, _≤_, _<_, _^_};
 ghost use lib.ListN.{length};
 ghost use Rattle.retain.specs.Frontier.{isOpen, ordered, leastOf, sound};
-ghost use Rattle.retain.specs.Found.{emptyFrontier, leastFrom, betterThan, cornersOf};
+ghost use Rattle.retain.specs.Found.{emptyFrontier, leastFrom, betterThan, cornersOf, keptBy};
 ghost use Rattle.chunk.specs.Entry.{keep};
 ghost use Rattle.retain.specs.Answer.{verdictBy, refusedBy, Parted, Extraction};
 ghost use Rattle.retain.specs.Keep.{keepsAt, timeKept, below, retainedOf};
@@ -14,7 +14,6 @@ ghost use Rattle.chunk.specs.Bodies.{chunkOf};
 ghost use Rattle.retain.specs.Cut.{filterNumber, filterOut, Split};
 use chunk::Contents;
 use climb::add_corner;
-use climb::joins;
 use runs::copy;
 use runs::write_run;
 use stay::count_below;
@@ -440,30 +439,43 @@ fn scan_corners(times: &[u64], upper: &[u64]) -> Corners
     }
 }
 
-// The frontier of the open times in one look over them, with the corners of those so far. Gives up where they become too many.
-fn climb_corners(times: &[u64], upper: &[u64]) -> Corners
+// What a look over the times finds: how many are open, and their frontier where it fits.
+pub struct Kept {
+    pub fits: bool,
+    pub number: usize,
+    pub frontier: Frontier,
+}
+
+// The open times in one look, with the corners of those so far: one that has a corner at or below it is open too. Gives up where the corners become
+// too many.
+fn climb_corners(times: &[u64], upper: &[u64]) -> Kept
     requires { ⌜ ordered (now upper) ≡ true ⌝ }
-    ensures { λ r. ⌜ (r .fits ≡ true → r ≡ cornersOf (leastOf (keep (isOpen (now (upper .entry))) (now (times .entry))))) ⌝ }
+    ensures { λ r. ⌜ (r .fits ≡ true → r ≡ keptBy (keep (isOpen (now (upper .entry))) (now (times .entry)))) ⌝ }
 {
     let mut stairs = [0; 128];
     let mut count = 0;
+    let mut number = 0;
     let mut i = 0;
     while i < times.len() {
         let time = times[i];
-        if joins(upper, &stairs[..count], time) {
-            let more = add_corner(&mut stairs[..], count, time);
-            if Frontier::MOST < more {
-                return Corners {
+        if is_open(&stairs[..count], time) {
+            number += 1;
+        } else if is_open(upper, time) {
+            number += 1;
+            count = add_corner(&mut stairs[..], count, time);
+            if Frontier::MOST < count {
+                return Kept {
                     fits: false,
+                    number: 0,
                     frontier: Frontier::new(),
                 };
             }
-            count = more;
         }
         i += 1;
     }
-    Corners {
+    Kept {
         fits: true,
+        number,
         frontier: Frontier {
             count: count as u64,
             corners: stairs,
@@ -471,17 +483,41 @@ fn climb_corners(times: &[u64], upper: &[u64]) -> Corners
     }
 }
 
-// The frontier of the open times: in one look, or, where they have too many corners on the way, corner by corner.
-fn kept_corners(times: &[u64], upper: &[u64]) -> Corners
+// How many times are open.
+fn count_open(times: &[u64], upper: &[u64]) -> usize
     requires { ⌜ ordered (now upper) ≡ true ⌝ }
-    ensures { λ r. ⌜ r ≡ cornersOf (leastOf (keep (isOpen (now (upper .entry))) (now (times .entry)))) ⌝ }
+    ensures { λ r. ⌜ r ≡ length (keep (isOpen (now (upper .entry))) (now (times .entry))) ⌝ }
+{
+    let mut number = 0;
+    let mut i = 0;
+    while i < times.len() {
+        if is_open(upper, times[i]) {
+            number += 1;
+        }
+        i += 1;
+    }
+    number
+}
+
+// The open times: in one look, or, where they have too many corners on the way, corner by corner.
+fn kept_corners(times: &[u64], upper: &[u64]) -> Kept
+    requires { ⌜ ordered (now upper) ≡ true ⌝ }
+    ensures { λ r. ⌜ r ≡ keptBy (keep (isOpen (now (upper .entry))) (now (times .entry))) ⌝ }
 {
     let quick = climb_corners(times, upper);
     let done = quick.fits;
     if done {
         return quick;
     }
-    scan_corners(times, upper)
+    let least = scan_corners(times, upper);
+    let fits = least.fits;
+    let frontier = least.frontier;
+    let number = count_open(times, upper);
+    Kept {
+        fits,
+        number,
+        frontier,
+    }
 }
 
 // Whether corners stand in order: ignitions rising strictly and ticks falling strictly.
@@ -578,7 +614,7 @@ fn extract_open(
         return refused(10);
     }
     let frontier = least.frontier;
-    let open = count_items(words, found, Keep::Open, corners);
+    let open = least.number;
     let all = found.nt;
     let verdict = verdict_of(open, all);
     retain_counted(words, found, Keep::Open, corners, open, kept);

@@ -4,7 +4,7 @@ use mathlib.Core.Path.{_≡_, sym, _∙_, ap}
 use mathlib.Core.Bool.{true, not}
 use mathlib.Core.List.{List}
 use native.Mathlib.Omega.{arith}
-use lib.ListN.{length, take, drop}
+use lib.ListN.{length, take, drop, length-map}
 use borrow.Author.Tests.{not-true, not-false}
 use Rattle.chunk.specs.declared.Contents.{Contents}
 use Rattle.chunk.specs.Entry.{Entry, keep, every, stands}
@@ -14,12 +14,13 @@ use Rattle.chunk.specs.Contents.{Placed}
 use Rattle.chunk.proofs.Placed.{cut-times}
 use Rattle.laws.proofs.OneChunk.{settled-stands, front-is-chunk}
 use Rattle.retain.specs.declared.Corners.{Corners}
+use Rattle.retain.specs.declared.Kept.{Kept}
 use Rattle.retain.specs.declared.Keep.the-variants.{Open, Shut}
 use Rattle.retain.specs.Frontier.{isOpen, leastOf}
 use Rattle.retain.specs.Extract.{keptOf, shippedOf, frontierOf}
 use Rattle.retain.specs.Keep.{retainedOf}
-use Rattle.retain.specs.Found.{cornersOf}
-use Rattle.retain.proofs.Answers.{its-frontier, lengths, too-many, taken}
+use Rattle.retain.specs.Found.{cornersOf, keptBy}
+use Rattle.retain.proofs.Answers.{keep-times, lengths, too-many, taken}
 use Rattle.retain.proofs.Picks.{retained-open, retained-shut}
 use Rattle.retain.proofs.Retained.{times-in}
 use borrow.Author.Needs.{needs}
@@ -36,19 +37,28 @@ module _ (found : Contents) (w : List ℕ) (p : Placed found w) (formed : wellFo
   all-times : cutTimes ≡ times (entries w)
   all-times = cut-times found w p ∙ sym (times-in w formed (λ i. true))
 
-  found-corners : (r : Corners) → r ≡ cornersOf (leastOf (keep (isOpen corners) cutTimes)) → r ≡ cornersOf (frontierOf corners (entries w))
-  found-corners r e = e ∙ ap (λ (l : List ℕ). cornersOf (leastOf (keep (isOpen corners) l))) all-times ∙ ap cornersOf (its-frontier corners (entries w))
+  kept-times : keep (isOpen corners) cutTimes ≡ times (keptOf corners (entries w))
+  unfolding keptOf
+  kept-times = ap (keep (isOpen corners)) all-times ∙ sym (keep-times (isOpen corners) (entries w))
+
+  -- the corners found, and how many are open
+  found-corners : (r : Kept) → r ≡ keptBy (keep (isOpen corners) cutTimes) → _≡_ {A = Corners} (record { fits = r .fits; frontier = r .frontier }) (cornersOf (frontierOf corners (entries w)))
+  unfolding frontierOf
+  found-corners r e = (λ i. record { fits = e i .fits; frontier = e i .frontier }) ∙ ap (λ (l : List ℕ). cornersOf (leastOf l)) kept-times
+
+  opened : (r : Kept) → r ≡ keptBy (keep (isOpen corners) cutTimes) → r .number ≡ length (keptOf corners (entries w))
+  opened r e = ap (λ (k : Kept). k .number) e ∙ ap length kept-times ∙ length-map (keptOf corners (entries w)) (λ (x : Entry). x .time)
+
+  stays : (r : Kept) → r ≡ keptBy (keep (isOpen corners) cutTimes) → r .number ≡ length (retainedOf Open corners w)
+  stays r e = opened r e ∙ sym (ap length (retained-open w formed corners stand))
 
   number : found .nt ≡ length (entries w)
   number = p .timeCount ∙ sym (front-is-chunk w formed .counted)
 
-  opened : (n : ℕ) → n ≡ length (retainedOf Open corners w) → n ≡ length (keptOf corners (entries w))
-  opened n e = e ∙ ap length (retained-open w formed corners stand)
-
   -- those that are not open are the others
-  others : (n : ℕ) → n ≡ length (retainedOf Open corners w) → (n ≤ found .nt) × (found .nt - n ≡ length (retainedOf Shut corners w))
-  others n e =
-      let k = opened n e in
+  others : (r : Kept) → r ≡ keptBy (keep (isOpen corners) cutTimes) → (r .number ≤ found .nt) × (found .nt - r .number ≡ length (retainedOf Shut corners w))
+  others r e =
+      let k = opened r e in
       let s : length (retainedOf Shut corners w) ≡ length (shippedOf corners (entries w)) = ap length (retained-shut w formed corners stand) in
       let l = lengths corners (entries w) (entries w) in
       let m = number in
@@ -78,20 +88,17 @@ returns c =
     rw (c .refused .ensures) (too-many (a .args .corners .now) (entries (a .args .words .now)) _ (a .args .kept .now) (a .args .shipped .now)
     (found-corners (a .args .found) (a .args .words .now) (a .pre .0 .1 .0) (a .pre .0 .0) (a .pre .0 .1 .1) (a .args .corners .now) _ (c .before .before .kept-corners .ensures)) (not-true _ (c .before .if1 .taken)))
 
-count-items-requires : tie.Need-count-items-requires
-count-items-requires c κs = search needs
-
 verdict-of-requires : tie.Need-verdict-of-requires
 verdict-of-requires c κs = search needs
 
 retain-counted-requires : tie.Need-retain-counted-requires
-retain-counted-requires c κs = search needs
+retain-counted-requires c κs = let a = c .before .before .before .before .before .before .before .before .before .before in ((a .pre .0 .0, a .pre .0 .1 .0), ((a .pre .1 .0, a .pre .1 .1 .0), stays (a .args .found) (a .args .words .now) (a .pre .0 .1 .0) (a .pre .0 .0) (a .pre .0 .1 .1) (a .args .corners .now) _ (c .before .before .before .before .kept-corners .ensures)))
 
 sub-retain-counted : tie.Need-sub-retain-counted
-sub-retain-counted c = let a = c .before .before .before .before .before .before .before .before .before .before .before .before .before .before in others (a .args .found) (a .args .words .now) (a .pre .0 .1 .0) (a .pre .0 .0) (a .pre .0 .1 .1) (a .args .corners .now) _ (c .before .before .before .before .before .count-items .ensures) .0
+sub-retain-counted c = let a = c .before .before .before .before .before .before .before .before .before .before .before .before .before in others (a .args .found) (a .args .words .now) (a .pre .0 .1 .0) (a .pre .0 .0) (a .pre .0 .1 .1) (a .args .corners .now) _ (c .before .before .before .before .before .before .before .kept-corners .ensures) .0
 
 retain-counted-requires-2 : tie.Need-retain-counted-requires-2
-retain-counted-requires-2 c κs = let a = c .before .before .before .before .before .before .before .before .before .before .before .before .before .before .before in ((a .pre .0 .0, a .pre .0 .1 .0), ((a .pre .1 .0, a .pre .1 .1 .1), others (a .args .found) (a .args .words .now) (a .pre .0 .1 .0) (a .pre .0 .0) (a .pre .0 .1 .1) (a .args .corners .now) _ (c .before .before .before .before .before .before .count-items .ensures) .1))
+retain-counted-requires-2 c κs = let a = c .before .before .before .before .before .before .before .before .before .before .before .before .before .before in ((a .pre .0 .0, a .pre .0 .1 .0), ((a .pre .1 .0, a .pre .1 .1 .1), others (a .args .found) (a .args .words .now) (a .pre .0 .1 .0) (a .pre .0 .0) (a .pre .0 .1 .1) (a .args .corners .now) _ (c .before .before .before .before .before .before .before .before .kept-corners .ensures) .1))
 
 same-length : tie.Need-same-length
 same-length c = search needs
@@ -101,11 +108,12 @@ same-length-2 c = search needs
 
 returns-2 : tie.Need-returns-2
 returns-2 c =
-    let a = c .before .before .before .before .before .before .before .before .before .before .before .before .before .before .before .before .before .before in
+    let a = c .before .before .before .before .before .before .before .before .before .before .before .before .before .before .before .before .before in
     let v = stand (a .args .found) (a .args .words .now) (a .pre .0 .1 .0) (a .pre .0 .0) (a .pre .0 .1 .1) (a .args .corners .now) in
+    let k = c .before .before .before .before .before .before .before .before .before .before .before .kept-corners .ensures in
     taken (a .args .corners .now) (entries (a .args .words .now)) _ _ _ _ (a .args .kept .now) (a .args .shipped .now) _ _
-    (found-corners (a .args .found) (a .args .words .now) (a .pre .0 .1 .0) (a .pre .0 .0) (a .pre .0 .1 .1) (a .args .corners .now) _ (c .before .before .before .before .before .before .before .before .before .before .before .before .kept-corners .ensures)) (not-false _ (c .before .before .before .before .before .before .before .before .before .before .before .if1 .left))
-    (opened (a .args .found) (a .args .words .now) (a .pre .0 .1 .0) (a .pre .0 .0) (a .pre .0 .1 .1) (a .args .corners .now) _ (c .before .before .before .before .before .before .before .before .before .count-items .ensures)) (number (a .args .found) (a .args .words .now) (a .pre .0 .1 .0) (a .pre .0 .0) (a .pre .0 .1 .1) (a .args .corners .now)) (c .before .before .before .before .before .before .before .before .verdict-of .ensures)
+    (found-corners (a .args .found) (a .args .words .now) (a .pre .0 .1 .0) (a .pre .0 .0) (a .pre .0 .1 .1) (a .args .corners .now) _ k) (not-false _ (c .before .before .before .before .before .before .before .before .before .before .if1 .left))
+    (opened (a .args .found) (a .args .words .now) (a .pre .0 .1 .0) (a .pre .0 .0) (a .pre .0 .1 .1) (a .args .corners .now) _ k) (number (a .args .found) (a .args .words .now) (a .pre .0 .1 .0) (a .pre .0 .0) (a .pre .0 .1 .1) (a .args .corners .now)) (c .before .before .before .before .before .before .before .before .verdict-of .ensures)
     (c .before .before .before .before .before .before .retain-counted .ensures ∙ ap (λ (es : List Entry). over (chunkOf es) (a .args .kept .now)) (retained-open (a .args .words .now) (a .pre .0 .0) (a .args .corners .now) v))
     (c .before .before .retain-counted2 .ensures ∙ ap (λ (es : List Entry). over (chunkOf es) (a .args .shipped .now)) (retained-shut (a .args .words .now) (a .pre .0 .0) (a .args .corners .now) v))
 
@@ -120,7 +128,6 @@ extract-open-spec =
     kept-corners-requires
     refused-requires
     returns
-    count-items-requires
     verdict-of-requires
     retain-counted-requires
     sub-retain-counted

@@ -260,26 +260,18 @@ fn retain_counted(
     retain_some(words, found, keep, corners, nt, out);
 }
 
-// How many entries stay.
-fn count_items(words: &[u64], found: Contents, keep: Keep, corners: &[u64]) -> usize
-    requires { ⌜ (wellFormed (now words) ≡ true) × (Placed found (now words) × (ordered (now corners) ≡ true)) ⌝ }
-    ensures { λ r. ⌜ r ≡ length (retainedOf keep (now (corners .entry)) (now (words .entry))) ⌝ }
+// Counts the entries that stay, and writes the chunk of them.
+fn retain_items(words: &[u64], found: Contents, keep: Keep, corners: &[u64], out: &mut [u64])
+    requires { ⌜ (wellFormed (now words) ≡ true) × Placed found (now words) ⌝ }
+    requires { ⌜ (ordered (now corners) ≡ true) × (size (now words) ≤ length (now out)) ⌝ }
+    ensures { λ _. ⌜ now (out .exit) ≡ over (chunkOf (retainedOf keep (now (corners .entry)) (now (words .entry)))) (now (out .entry)) ⌝ }
 {
     let times_at = found.times_at;
     let diff_ends_at = found.diff_ends_at;
     let diffs_at = found.diffs_at;
     let times = &words[times_at..diff_ends_at];
     let diff_ends = &words[diff_ends_at..diffs_at];
-    count_times(keep, times, corners, diff_ends, 0, times.len())
-}
-
-// Writes the chunk of the entries that stay.
-fn retain_items(words: &[u64], found: Contents, keep: Keep, corners: &[u64], out: &mut [u64])
-    requires { ⌜ (wellFormed (now words) ≡ true) × Placed found (now words) ⌝ }
-    requires { ⌜ (ordered (now corners) ≡ true) × (size (now words) ≤ length (now out)) ⌝ }
-    ensures { λ _. ⌜ now (out .exit) ≡ over (chunkOf (retainedOf keep (now (corners .entry)) (now (words .entry)))) (now (out .entry)) ⌝ }
-{
-    let nt = count_items(words, found, keep, corners);
+    let nt = count_times(keep, times, corners, diff_ends, 0, times.len());
     retain_counted(words, found, keep, corners, nt, out);
 }
 
@@ -323,8 +315,13 @@ pub fn split_at(words: &[u64], n: u64, first: &mut [u64], rest: &mut [u64]) -> u
         return 13;
     }
     let at = n as usize;
-    retain_items(words, found, Keep::Below(at), &words[0..0], first);
-    retain_items(words, found, Keep::From(at), &words[0..0], rest);
+    let all = found.nt;
+    let mut cut = at;
+    if all < at {
+        cut = all;
+    }
+    retain_counted(words, found, Keep::Below(at), &words[0..0], cut, first);
+    retain_counted(words, found, Keep::From(at), &words[0..0], all - cut, rest);
     0
 }
 

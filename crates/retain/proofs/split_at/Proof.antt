@@ -1,29 +1,26 @@
 -- `retain::split_at` meets its contract: each refusal leaves both outputs, and what is retained is what is below n, and the rest.
-use Prim.Native.Nat.{ℕ, zero, suc, _<_, _≤_}
+use Prim.Native.Nat.{ℕ, _-_, _<_, _≤_, min}
 use mathlib.Core.Path.{_≡_, refl, sym, _∙_, ap}
-use mathlib.Core.Bool.{Bool, true, false, not}
+use mathlib.Core.Bool.{true, false}
 use mathlib.Core.List.{List, []}
+use mathlib.Core.Logic.{⊎-elim}
 use native.Mathlib.Omega.{arith}
-use lib.ListN.{length, take, drop}
-use lib.Dec.{ltb}
+use lib.ListN.{length, take, drop, length-take, length-drop}
 use borrow.Author.Tests.{lt-ltb, le-ltb, not-true, not-false}
 use Rattle.chunk.specs.Entry.{Entry, every, stands}
 use Rattle.chunk.specs.Bodies.{chunkOf}
-use Rattle.chunk.specs.Words.{wellFormed, settled, entries, size, over}
+use Rattle.chunk.specs.Words.{wellFormed, settled, entries, size, over, nt}
 use Rattle.chunk.specs.Refusal.{first, written}
-use Rattle.laws.proofs.OneChunk.{settled-stands}
+use Rattle.laws.proofs.OneChunk.{settled-stands, front-is-chunk}
 use Rattle.retain.specs.Cut.{Split, splitNumber, splitFirst, splitRest}
+use Rattle.retain.specs.declared.Keep.the-variants.{Below, From}
+use Rattle.retain.specs.Keep.{retainedOf}
 use Rattle.retain.specs.Frontier.{ordered}
-use Rattle.retain.proofs.Checked.{Passed, passed, Failed, failed}
+use Rattle.retain.proofs.Checked.{passed, failed}
 use Rattle.retain.proofs.Picks.{retained-below, retained-from}
-use borrow.Author.Needs.{needs}
 use borrow.Author.Needs.{needs}
 use Rattle.retain.proofs.split_at.Statement.{statement}
 use Rattle.retain.proofs.split_at.Tie as tie
-use Rattle.retain.proofs.split_at.Reads as reads
-use Rattle.retain.proofs.split_at.Lts as lts
-use Rattle.chunk.proofs.check.Reads as check-reads
-use Rattle.retain.proofs.retain_items.Reads as retain-items-reads
 
 malformed : (w : List ℕ) (n : ℕ) (one two : List ℕ) → wellFormed w ≡ false → Split 5 one two w n one two
 unfolding splitNumber splitFirst splitRest first written
@@ -50,6 +47,29 @@ unfolding splitNumber splitFirst splitRest first written
 accepted w n one two oneAfter twoAfter h s j k d e =
     let p = le-ltb (length one) (size w) j in let q = le-ltb (length two) (size w) k in
     record { number = simp (h, s, p, q); first = d ∙ simp (h, s, p, q); rest = e ∙ simp (h, s, p, q) }
+
+-- the lesser of the two
+least-all : (n all cut : ℕ) → all < n → cut ≡ all → cut ≡ min n all
+least-all n all cut h e = omega arith
+
+least-cut : (n all cut : ℕ) → n ≤ all → cut ≡ n → cut ≡ min n all
+least-cut n all cut h e = omega arith
+
+-- how many are before the cut, and how many from it on
+module _ (w : List ℕ) (n cut all : ℕ) (f : wellFormed w ≡ true) (s : settled w ≡ true) (e : all ≡ nt w) (corners : List ℕ) where
+  stand : every stands (entries w) ≡ true
+  stand = sym (settled-stands w f) ∙ s
+
+  first-count : cut ≡ min n all → cut ≡ length (retainedOf (Below n) corners w)
+  first-count h =
+      h ∙ ap (min n) (e ∙ sym (front-is-chunk w f .counted)) ∙ sym (length-take n (entries w)) ∙ ap length (sym (retained-below w f corners stand n))
+
+  rest-count : cut ≡ min n all → all - cut ≡ length (retainedOf (From n) corners w)
+  rest-count h =
+      let l : length (drop n (entries w)) ≡ length (entries w) - n = length-drop n (entries w) in
+      let k : length (entries w) ≡ nt w = front-is-chunk w f .counted in
+      let m : all - cut ≡ length (entries w) - n = omega arith in
+      m ∙ sym l ∙ ap length (sym (retained-from w f corners stand n))
 
 check-requires : tie.Need-check-requires
 check-requires c κs = search needs
@@ -79,37 +99,44 @@ returns-4 c =
     let s : settled (a .words .now) ≡ true = sym (p .settles) ∙ not-false _ (c .before .before .before .if2 .left) in
     short-rest (a .words .now) (a .n) (a .first .now) (a .rest .now) (p .formed) s (omega (arith, p .spread .sized)) (omega (arith, p .spread .sized))
 
-sub-retain-items : tie.Need-sub-retain-items
-sub-retain-items c = search needs
+sub-retain-counted : tie.Need-sub-retain-counted
+sub-retain-counted c = search needs
 
-part-retain-items-start : tie.Need-part-retain-items-start
-part-retain-items-start c = search needs
+part-retain-counted-start : tie.Need-part-retain-counted-start
+part-retain-counted-start c = search needs
 
-part-retain-items-end : tie.Need-part-retain-items-end
-part-retain-items-end c = search needs
+part-retain-counted-end : tie.Need-part-retain-counted-end
+part-retain-counted-end c = search needs
 
-retain-items-requires : tie.Need-retain-items-requires
+retain-counted-requires : tie.Need-retain-counted-requires
 unfolding ordered
-retain-items-requires c κs =
-    let a = c .before .before .before .before .before .before .before .before .before .before .before .args in
-    let p = passed _ (a .words .now) (c .before .before .before .before .before .before .before .check .ensures) (c .before .before .before .before .before .before .if1 .left) in
-    ((p .formed, p .spread), (refl, omega (arith, p .spread .sized)))
+retain-counted-requires c κs =
+    let a = c .before .before .before .before .before .before .before .before .before .before .before .before .args in
+    let p = passed _ (a .words .now) (c .before .before .before .before .before .before .before .before .check .ensures) (c .before .before .before .before .before .before .before .if1 .left) in
+    let s : settled (a .words .now) ≡ true = sym (p .settles) ∙ not-false _ (c .before .before .before .before .before .before .if2 .left) in
+    let m : c .before .before .if5 .cut ≡ min (a .n) (c .before .before .before .before .before .before .before .before .check .result .contents .nt) = ⊎-elim (λ w. least-all _ _ _ (w .0 .taken) (w .1)) (λ w. least-cut _ _ _ (w .0 .left) (w .1)) (c .before .before .if5 .came) in
+    ((p .formed, p .spread), ((refl, omega (arith, p .spread .sized)), first-count (a .words .now) (a .n) _ _ (p .formed) s (p .spread .timeCount) [] m))
 
-sub-retain-items-2 : tie.Need-sub-retain-items-2
-sub-retain-items-2 c = search needs
+sub-retain-counted-2 : tie.Need-sub-retain-counted-2
+sub-retain-counted-2 c = search needs
 
-part-retain-items-start-2 : tie.Need-part-retain-items-start-2
-part-retain-items-start-2 c = search needs
+part-retain-counted-start-2 : tie.Need-part-retain-counted-start-2
+part-retain-counted-start-2 c = search needs
 
-part-retain-items-end-2 : tie.Need-part-retain-items-end-2
-part-retain-items-end-2 c = search needs
+part-retain-counted-end-2 : tie.Need-part-retain-counted-end-2
+part-retain-counted-end-2 c = search needs
 
-retain-items-requires-2 : tie.Need-retain-items-requires-2
+sub-retain-counted-3 : tie.Need-sub-retain-counted-3
+sub-retain-counted-3 c = ⊎-elim (λ w. let e = w .1 in omega arith) (λ w. let e = w .1 in let l = w .0 .left in omega arith) (c .before .before .before .before .before .before .before .if5 .came)
+
+retain-counted-requires-2 : tie.Need-retain-counted-requires-2
 unfolding ordered
-retain-items-requires-2 c κs =
-    let a = c .before .before .before .before .before .before .before .before .before .before .before .before .before .before .before .before .args in
-    let p = passed _ (a .words .now) (c .before .before .before .before .before .before .before .before .before .before .before .before .check .ensures) (c .before .before .before .before .before .before .before .before .before .before .before .if1 .left) in
-    ((p .formed, p .spread), (refl, omega (arith, p .spread .sized)))
+retain-counted-requires-2 c κs =
+    let a = c .before .before .before .before .before .before .before .before .before .before .before .before .before .before .before .before .before .before .args in
+    let p = passed _ (a .words .now) (c .before .before .before .before .before .before .before .before .before .before .before .before .before .before .check .ensures) (c .before .before .before .before .before .before .before .before .before .before .before .before .before .if1 .left) in
+    let s : settled (a .words .now) ≡ true = sym (p .settles) ∙ not-false _ (c .before .before .before .before .before .before .before .before .before .before .before .before .if2 .left) in
+    let m : c .before .before .before .before .before .before .before .before .if5 .cut ≡ min (a .n) (c .before .before .before .before .before .before .before .before .before .before .before .before .before .before .check .result .contents .nt) = ⊎-elim (λ w. least-all _ _ _ (w .0 .taken) (w .1)) (λ w. least-cut _ _ _ (w .0 .left) (w .1)) (c .before .before .before .before .before .before .before .before .if5 .came) in
+    ((p .formed, p .spread), ((refl, omega (arith, p .spread .sized)), rest-count (a .words .now) (a .n) _ _ (p .formed) s (p .spread .timeCount) [] m))
 
 same-length : tie.Need-same-length
 same-length c = search needs
@@ -119,13 +146,13 @@ same-length-2 c = search needs
 
 returns-5 : tie.Need-returns-5
 returns-5 c =
-    let a = c .before .before .before .before .before .before .before .before .before .before .before .before .before .before .before .before .before .before .before .args in
-    let p = passed _ (a .words .now) (c .before .before .before .before .before .before .before .before .before .before .before .before .before .before .before .check .ensures) (c .before .before .before .before .before .before .before .before .before .before .before .before .before .before .if1 .left) in
-    let s : settled (a .words .now) ≡ true = sym (p .settles) ∙ not-false _ (c .before .before .before .before .before .before .before .before .before .before .before .before .before .if2 .left) in
+    let a = c .before .before .before .before .before .before .before .before .before .before .before .before .before .before .before .before .before .before .before .before .before .args in
+    let p = passed _ (a .words .now) (c .before .before .before .before .before .before .before .before .before .before .before .before .before .before .before .before .before .check .ensures) (c .before .before .before .before .before .before .before .before .before .before .before .before .before .before .before .before .if1 .left) in
+    let s : settled (a .words .now) ≡ true = sym (p .settles) ∙ not-false _ (c .before .before .before .before .before .before .before .before .before .before .before .before .before .before .before .if2 .left) in
     let v : every stands (entries (a .words .now)) ≡ true = sym (settled-stands (a .words .now) (p .formed)) ∙ s in
     accepted (a .words .now) (a .n) (a .first .now) (a .rest .now) _ _ (p .formed) s (omega (arith, p .spread .sized)) (omega (arith, p .spread .sized))
-    (c .before .before .before .before .before .before .before .retain-items .ensures ∙ ap (λ (es : List Entry). over (chunkOf es) (a .first .now)) (retained-below (a .words .now) (p .formed) _ v (a .n)))
-    (c .before .before .retain-items2 .ensures ∙ ap (λ (es : List Entry). over (chunkOf es) (a .rest .now)) (retained-from (a .words .now) (p .formed) _ v (a .n)))
+    (c .before .before .before .before .before .before .before .before .retain-counted .ensures ∙ ap (λ (es : List Entry). over (chunkOf es) (a .first .now)) (retained-below (a .words .now) (p .formed) _ v (a .n)))
+    (c .before .before .retain-counted2 .ensures ∙ ap (λ (es : List Entry). over (chunkOf es) (a .rest .now)) (retained-from (a .words .now) (p .formed) _ v (a .n)))
 
 pub split-at-spec : {M : Type 1} → statement M
 split-at-spec =
@@ -136,14 +163,15 @@ split-at-spec =
     returns-2
     returns-3
     returns-4
-    sub-retain-items
-    part-retain-items-start
-    part-retain-items-end
-    retain-items-requires
-    sub-retain-items-2
-    part-retain-items-start-2
-    part-retain-items-end-2
-    retain-items-requires-2
+    sub-retain-counted
+    part-retain-counted-start
+    part-retain-counted-end
+    retain-counted-requires
+    sub-retain-counted-2
+    part-retain-counted-start-2
+    part-retain-counted-end-2
+    sub-retain-counted-3
+    retain-counted-requires-2
     same-length
     same-length-2
     returns-5)

@@ -1,9 +1,9 @@
--- `retain::count_items` meets its contract: as many entries stay as times.
+-- `retain::retain_items` meets its contract: as many entries stay as times.
 use mathlib.Core.Path.{_∙_}
 use Rattle.retain.proofs.Whole.{items-count}
 use borrow.Author.Needs.{needs}
-use Rattle.retain.proofs.count_items.Statement.{statement}
-use Rattle.retain.proofs.count_items.Tie as tie
+use Rattle.retain.proofs.retain_items.Statement.{statement}
+use Rattle.retain.proofs.retain_items.Tie as tie
 
 mul-times : tie.Need-mul-times
 mul-times c = search needs
@@ -32,11 +32,19 @@ part-diff-ends-end c = search needs
 count-times-requires : tie.Need-count-times-requires
 count-times-requires c κs = search needs
 
-returns : tie.Need-returns
-returns c = let a = c .before .before .before .before .before in c .count-times .ensures ∙ items-count (a .args .found) (a .args .words .now) (a .args .keep) (a .args .corners .now) (a .pre .1 .0) (a .pre .0)
+retain-counted-requires : tie.Need-retain-counted-requires
+retain-counted-requires c κs =
+    let a = c .before .before .before .before .before .before .before in
+    (a .pre .0, (a .pre .1, c .before .count-times .ensures ∙ items-count (a .args .found) (a .args .words .now) (a .args .keep) (a .args .corners .now) (a .pre .0 .1) (a .pre .0 .0)))
 
-pub count-items-spec : {M : Type 1} → statement M
-count-items-spec =
+same-length : tie.Need-same-length
+same-length c = search needs
+
+returns : tie.Need-returns
+returns c = search needs
+
+pub retain-items-spec : {M : Type 1} → statement M
+retain-items-spec =
     tie.close
     (tie.spec
     mul-times
@@ -48,4 +56,6 @@ count-items-spec =
     part-diff-ends-start
     part-diff-ends-end
     count-times-requires
+    retain-counted-requires
+    same-length
     returns)

@@ -320,8 +320,9 @@ pub fn split_at(words: &[u64], n: u64, first: &mut [u64], rest: &mut [u64]) -> u
     if all < at {
         cut = all;
     }
-    retain_counted(words, found, Keep::Below(at), &words[0..0], cut, first);
-    retain_counted(words, found, Keep::From(at), &words[0..0], all - cut, rest);
+    let none = &words[0..0];
+    retain_counted(words, found, Keep::Below(at), none, cut, first);
+    retain_counted(words, found, Keep::From(at), none, all - cut, rest);
     0
 }
 

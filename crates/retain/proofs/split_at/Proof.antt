@@ -99,14 +99,14 @@ returns-4 c =
     let s : settled (a .words .now) ≡ true = sym (p .settles) ∙ not-false _ (c .before .before .before .if2 .left) in
     short-rest (a .words .now) (a .n) (a .first .now) (a .rest .now) (p .formed) s (omega (arith, p .spread .sized)) (omega (arith, p .spread .sized))
 
-sub-retain-counted : tie.Need-sub-retain-counted
-sub-retain-counted c = search needs
+sub-none : tie.Need-sub-none
+sub-none c = search needs
 
-part-retain-counted-start : tie.Need-part-retain-counted-start
-part-retain-counted-start c = search needs
+part-none-start : tie.Need-part-none-start
+part-none-start c = search needs
 
-part-retain-counted-end : tie.Need-part-retain-counted-end
-part-retain-counted-end c = search needs
+part-none-end : tie.Need-part-none-end
+part-none-end c = search needs
 
 retain-counted-requires : tie.Need-retain-counted-requires
 unfolding ordered
@@ -117,25 +117,16 @@ retain-counted-requires c κs =
     let m : c .before .before .if5 .cut ≡ min (a .n) (c .before .before .before .before .before .before .before .before .check .result .contents .nt) = ⊎-elim (λ w. least-all _ _ _ (w .0 .taken) (w .1)) (λ w. least-cut _ _ _ (w .0 .left) (w .1)) (c .before .before .if5 .came) in
     ((p .formed, p .spread), ((refl, omega (arith, p .spread .sized)), first-count (a .words .now) (a .n) _ _ (p .formed) s (p .spread .timeCount) [] m))
 
-sub-retain-counted-2 : tie.Need-sub-retain-counted-2
-sub-retain-counted-2 c = search needs
-
-part-retain-counted-start-2 : tie.Need-part-retain-counted-start-2
-part-retain-counted-start-2 c = search needs
-
-part-retain-counted-end-2 : tie.Need-part-retain-counted-end-2
-part-retain-counted-end-2 c = search needs
-
-sub-retain-counted-3 : tie.Need-sub-retain-counted-3
-sub-retain-counted-3 c = ⊎-elim (λ w. let e = w .1 in omega arith) (λ w. let e = w .1 in let l = w .0 .left in omega arith) (c .before .before .before .before .before .before .before .if5 .came)
+sub-retain-counted : tie.Need-sub-retain-counted
+sub-retain-counted c = ⊎-elim (λ w. let e = w .1 in omega arith) (λ w. let e = w .1 in let l = w .0 .left in omega arith) (c .before .before .before .before .before .before .if5 .came)
 
 retain-counted-requires-2 : tie.Need-retain-counted-requires-2
 unfolding ordered
 retain-counted-requires-2 c κs =
-    let a = c .before .before .before .before .before .before .before .before .before .before .before .before .before .before .before .before .before .before .args in
-    let p = passed _ (a .words .now) (c .before .before .before .before .before .before .before .before .before .before .before .before .before .before .check .ensures) (c .before .before .before .before .before .before .before .before .before .before .before .before .before .if1 .left) in
-    let s : settled (a .words .now) ≡ true = sym (p .settles) ∙ not-false _ (c .before .before .before .before .before .before .before .before .before .before .before .before .if2 .left) in
-    let m : c .before .before .before .before .before .before .before .before .if5 .cut ≡ min (a .n) (c .before .before .before .before .before .before .before .before .before .before .before .before .before .before .check .result .contents .nt) = ⊎-elim (λ w. least-all _ _ _ (w .0 .taken) (w .1)) (λ w. least-cut _ _ _ (w .0 .left) (w .1)) (c .before .before .before .before .before .before .before .before .if5 .came) in
+    let a = c .before .before .before .before .before .before .before .before .before .before .before .before .before .before .before .before .before .args in
+    let p = passed _ (a .words .now) (c .before .before .before .before .before .before .before .before .before .before .before .before .before .check .ensures) (c .before .before .before .before .before .before .before .before .before .before .before .before .if1 .left) in
+    let s : settled (a .words .now) ≡ true = sym (p .settles) ∙ not-false _ (c .before .before .before .before .before .before .before .before .before .before .before .if2 .left) in
+    let m : c .before .before .before .before .before .before .before .if5 .cut ≡ min (a .n) (c .before .before .before .before .before .before .before .before .before .before .before .before .before .check .result .contents .nt) = ⊎-elim (λ w. least-all _ _ _ (w .0 .taken) (w .1)) (λ w. least-cut _ _ _ (w .0 .left) (w .1)) (c .before .before .before .before .before .before .before .if5 .came) in
     ((p .formed, p .spread), ((refl, omega (arith, p .spread .sized)), rest-count (a .words .now) (a .n) _ _ (p .formed) s (p .spread .timeCount) [] m))
 
 same-length : tie.Need-same-length
@@ -146,12 +137,12 @@ same-length-2 c = search needs
 
 returns-5 : tie.Need-returns-5
 returns-5 c =
-    let a = c .before .before .before .before .before .before .before .before .before .before .before .before .before .before .before .before .before .before .before .before .before .args in
-    let p = passed _ (a .words .now) (c .before .before .before .before .before .before .before .before .before .before .before .before .before .before .before .before .before .check .ensures) (c .before .before .before .before .before .before .before .before .before .before .before .before .before .before .before .before .if1 .left) in
-    let s : settled (a .words .now) ≡ true = sym (p .settles) ∙ not-false _ (c .before .before .before .before .before .before .before .before .before .before .before .before .before .before .before .if2 .left) in
+    let a = c .before .before .before .before .before .before .before .before .before .before .before .before .before .before .before .before .before .before .before .before .args in
+    let p = passed _ (a .words .now) (c .before .before .before .before .before .before .before .before .before .before .before .before .before .before .before .before .check .ensures) (c .before .before .before .before .before .before .before .before .before .before .before .before .before .before .before .if1 .left) in
+    let s : settled (a .words .now) ≡ true = sym (p .settles) ∙ not-false _ (c .before .before .before .before .before .before .before .before .before .before .before .before .before .before .if2 .left) in
     let v : every stands (entries (a .words .now)) ≡ true = sym (settled-stands (a .words .now) (p .formed)) ∙ s in
     accepted (a .words .now) (a .n) (a .first .now) (a .rest .now) _ _ (p .formed) s (omega (arith, p .spread .sized)) (omega (arith, p .spread .sized))
-    (c .before .before .before .before .before .before .before .before .retain-counted .ensures ∙ ap (λ (es : List Entry). over (chunkOf es) (a .first .now)) (retained-below (a .words .now) (p .formed) _ v (a .n)))
+    (c .before .before .before .before .before .before .before .retain-counted .ensures ∙ ap (λ (es : List Entry). over (chunkOf es) (a .first .now)) (retained-below (a .words .now) (p .formed) _ v (a .n)))
     (c .before .before .retain-counted2 .ensures ∙ ap (λ (es : List Entry). over (chunkOf es) (a .rest .now)) (retained-from (a .words .now) (p .formed) _ v (a .n)))
 
 pub split-at-spec : {M : Type 1} → statement M
@@ -163,14 +154,11 @@ split-at-spec =
     returns-2
     returns-3
     returns-4
-    sub-retain-counted
-    part-retain-counted-start
-    part-retain-counted-end
+    sub-none
+    part-none-start
+    part-none-end
     retain-counted-requires
-    sub-retain-counted-2
-    part-retain-counted-start-2
-    part-retain-counted-end-2
-    sub-retain-counted-3
+    sub-retain-counted
     retain-counted-requires-2
     same-length
     same-length-2

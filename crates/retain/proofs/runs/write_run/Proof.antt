@@ -1,77 +1,78 @@
 -- `retain::runs::write_run` meets its contract: each third takes its run.
 use Rattle.retain.proofs.Leaving.{put-run}
+use native.Mathlib.Omega.{arith}
 use borrow.Author.Needs.{needs}
 use Rattle.retain.proofs.runs.write_run.Statement.{statement}
 use Rattle.retain.proofs.runs.write_run.Tie as tie
 
 add-end : tie.Need-add-end
-add-end c = search needs
+add-end c = omega arith
 
 add-ends-at : tie.Need-add-ends-at
-add-ends-at c = search needs
+add-ends-at c = omega arith
 
 add-ends-end : tie.Need-add-ends-end
-add-ends-end c = search needs
+add-ends-end c = omega arith
 
 add-diffs-at : tie.Need-add-diffs-at
-add-diffs-at c = search needs
+add-diffs-at c = omega arith
 
 add-diffs-at-2 : tie.Need-add-diffs-at-2
-add-diffs-at-2 c = search needs
+add-diffs-at-2 c = omega arith
 
 add-diffs-end : tie.Need-add-diffs-end
-add-diffs-end c = search needs
+add-diffs-end c = omega arith
 
 add-diffs-end-2 : tie.Need-add-diffs-end-2
-add-diffs-end-2 c = search needs
+add-diffs-end-2 c = omega arith
 
 mul-copy : tie.Need-mul-copy
-mul-copy c = search needs
+mul-copy c = omega arith
 
 sub-copy : tie.Need-sub-copy
-sub-copy c = search needs
+sub-copy c = omega arith
 
 part-copy-start : tie.Need-part-copy-start
-part-copy-start c = search needs
+part-copy-start c = omega arith
 
 part-copy-end : tie.Need-part-copy-end
-part-copy-end c = search needs
+part-copy-end c = omega arith
 
 copy-requires : tie.Need-copy-requires
 copy-requires c κs = search needs
 
 mul-count-up : tie.Need-mul-count-up
-mul-count-up c = search needs
+mul-count-up c = omega arith
 
 sub-count-up : tie.Need-sub-count-up
-sub-count-up c = search needs
+sub-count-up c = omega arith
 
 part-count-up-start : tie.Need-part-count-up-start
-part-count-up-start c = search needs
+part-count-up-start c = omega arith
 
 part-count-up-end : tie.Need-part-count-up-end
-part-count-up-end c = search needs
+part-count-up-end c = omega arith
 
 count-up-requires : tie.Need-count-up-requires
 count-up-requires c κs = search needs
 
 mul-copy-2 : tie.Need-mul-copy-2
-mul-copy-2 c = search needs
+mul-copy-2 c = omega arith
 
 sub-copy-2 : tie.Need-sub-copy-2
-sub-copy-2 c = search needs
+sub-copy-2 c = omega arith
 
 part-copy-start-2 : tie.Need-part-copy-start-2
-part-copy-start-2 c = search needs
+part-copy-start-2 c = omega arith
 
 part-copy-end-2 : tie.Need-part-copy-end-2
-part-copy-end-2 c = search needs
+part-copy-end-2 c = omega arith
 
 copy-requires-2 : tie.Need-copy-requires-2
 copy-requires-2 c κs = search needs
 
 same-length : tie.Need-same-length
-same-length c = search needs
+same-length c = omega arith
 
 returns : tie.Need-returns
 returns c =

@@ -20,6 +20,8 @@ use Rattle.laws.proofs.OneChunk.{front-is-chunk, bodies-in}
 use Rattle.laws.proofs.Layers.{Seven}
 use Rattle.laws.proofs.Frame.{parts}
 use Rattle.retain.specs.Layers.{countKept, pick, pickAt, countUp, nodes, itemOf, endOf, listKept, hasDiff, nodesOut, leavesOut, EndsWithin, EndsByOne, ListsLeft, Bodies, Left, layersOut}
+use Rattle.retain.specs.declared.Keep.{Keep}
+use Rattle.retain.specs.Keep.{keepsAt, timeKept, retainedOf}
 use Rattle.retain.proofs.Filtered.{picked-keys, picked-valEnds, picked-vals, picked-timeEnds, pickAt-list, pickAt-diffs, picked-stands, length-pick, diffEnds-up, keep-all, nodes-pick, picked-few}
 use Rattle.retain.proofs.Counts.{count-most}
 
@@ -291,3 +293,19 @@ module _ (w : List ℕ) (f : wellFormed w ≡ true) (leaf : ℕ → Bool) where
   its-words k v t l ht =
       (λ i. layersOut timeStays (keyBody w) (valEndBody w) (valBody w) (timeEndBody w) (timeBody w) (diffEndBody w) (diffBody w) (its-keys k v l i) (its-vals k v l i) ((ht ∙ out-count) i))
       ∙ sym retained
+
+-- the same of parts that are the bodies
+module _ (w : List ℕ) (f : wellFormed w ≡ true) (k : Keep) (corners ks ves vs tes ts des ds : List ℕ)
+    (ek : ks ≡ keyBody w) (eve : ves ≡ valEndBody w) (ev : vs ≡ valBody w) (ete : tes ≡ timeEndBody w) (et : ts ≡ timeBody w) (ede : des ≡ diffEndBody w) (ed : ds ≡ diffBody w) where
+  pub cut-bodies : Bodies ks ves vs tes ts des ds
+  cut-bodies = rw (ek, eve, ev, ete, et, ede, ed) (its-bodies w f (λ i. true))
+
+  pub cut-left : (nk nv nt room : ℕ) → ListsLeft (listKept (timeKept k ts corners des) tes) ves nk nv → nt ≡ length (retainedOf k corners w) → size w ≤ room
+      → Left (timeKept k ts corners des) ks ves vs tes ts nk nv nt room
+  unfolding retainedOf
+  cut-left = rw (ek, eve, ev, ete, et, ede) (its-left w f (keepsAt k (timeBody w) corners))
+
+  pub cut-words : (nk nv nt : ℕ) → ListsLeft (listKept (timeKept k ts corners des) tes) ves nk nv → nt ≡ length (retainedOf k corners w)
+      → layersOut (timeKept k ts corners des) ks ves vs tes ts des ds nk nv nt ≡ chunkOf (retainedOf k corners w)
+  unfolding retainedOf
+  cut-words = rw (ek, eve, ev, ete, et, ede, ed) (its-words w f (keepsAt k (timeBody w) corners))

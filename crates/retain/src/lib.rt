@@ -3,7 +3,7 @@ ghost use mathlib.Core.Bool.{true, false};
 ghost use Prim.Native.Nat.{ℕ, _+_, _-_, _≤_, _<_, _^_};
 ghost use lib.ListN.{length};
 ghost use Rattle.retain.specs.Frontier.{isOpen, ordered, leastOf, sound};
-ghost use Rattle.retain.specs.Found.{emptyFrontier, leastFrom, betterThan, cornersOf, keptBy};
+ghost use Rattle.retain.specs.Found.{emptyFrontier, keptBy};
 ghost use Rattle.chunk.specs.Entry.{keep};
 ghost use Rattle.retain.specs.Answer.{verdictBy, refusedBy, Parted, Extraction};
 ghost use Rattle.retain.specs.Keep.{keepsAt, timeKept, below, retainedOf};
@@ -14,6 +14,7 @@ ghost use Rattle.chunk.specs.Bodies.{chunkOf};
 ghost use Rattle.retain.specs.Cut.{filterNumber, filterOut, Split};
 use chunk::Contents;
 use climb::add_corner;
+use one_by_one::scan_corners;
 use runs::copy;
 use runs::write_run;
 use stay::count_below;
@@ -23,6 +24,7 @@ use stay::is_open;
 use stay::run_end;
 
 mod climb;
+mod one_by_one;
 mod runs;
 mod stay;
 
@@ -353,88 +355,10 @@ pub struct Least {
     pub time: u64,
 }
 
-// Of the open times with a tick below `limit`, the one least in number.
-fn least_open(times: &[u64], corners: &[u64], limit: u64) -> Least
-    requires { ⌜ ordered (now corners) ≡ true ⌝ }
-    ensures { λ r. ⌜ r ≡ leastFrom (now (corners .entry)) limit (now (times .entry)) false 0 ⌝ }
-{
-    let mut found = false;
-    let mut best = 0;
-    let mut i = 0;
-    while i < times.len() {
-        let time = times[i];
-        if better(corners, limit, found, best, time) {
-            found = true;
-            best = time;
-        }
-        i += 1;
-    }
-    Least { found, time: best }
-}
-
-// Whether an open time with a tick below `limit` is less than the best so far.
-fn better(corners: &[u64], limit: u64, found: bool, best: u64, time: u64) -> bool
-    requires { ⌜ ordered (now corners) ≡ true ⌝ }
-    ensures { λ r. ⌜ r ≡ betterThan (now (corners .entry)) limit found best time ⌝ }
-{
-    if limit <= time % 0x1_0000_0000 {
-        return false;
-    }
-    if !found {
-        return is_open(corners, time);
-    }
-    if best <= time {
-        return false;
-    }
-    is_open(corners, time)
-}
-
 // The corners of the open times, where they are at most as many as a frontier holds.
 pub struct Corners {
     pub fits: bool,
     pub frontier: Frontier,
-}
-
-// The frontier of the open times: the least of them, then the least of those with a lower tick, and so on.
-fn scan_corners(times: &[u64], upper: &[u64]) -> Corners
-    requires { ⌜ ordered (now upper) ≡ true ⌝ }
-    ensures { λ r. ⌜ r ≡ cornersOf (leastOf (keep (isOpen (now (upper .entry))) (now (times .entry)))) ⌝ }
-{
-    let mut corners = [0; 128];
-    let mut count = 0;
-    let mut limit = 0x1_0000_0000;
-    while count < Frontier::MOST {
-        let least = least_open(times, upper, limit);
-        let found = least.found;
-        let time = least.time;
-        if !found {
-            return Corners {
-                fits: true,
-                frontier: Frontier {
-                    count: count as u64,
-                    corners,
-                },
-            };
-        }
-        corners[count] = time;
-        count += 1;
-        limit = time % 0x1_0000_0000;
-    }
-    let over = least_open(times, upper, limit);
-    let more = over.found;
-    if more {
-        return Corners {
-            fits: false,
-            frontier: Frontier::new(),
-        };
-    }
-    Corners {
-        fits: true,
-        frontier: Frontier {
-            count: count as u64,
-            corners,
-        },
-    }
 }
 
 // What a look over the times finds: how many are open, and their frontier where it fits.

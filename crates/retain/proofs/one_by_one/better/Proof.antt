@@ -5,10 +5,10 @@ use Rattle.laws.proofs.Tests.{and-false}
 use borrow.Author.Tests.{lt-ltb, le-ltb, not-true, not-false}
 use borrow.Author.Needs.{needs}
 use borrow.Author.Needs.{needs}
-use Rattle.retain.proofs.better.Statement.{statement}
-use Rattle.retain.proofs.better.Tie as tie
-use Rattle.retain.proofs.better.Reads as reads
-use Rattle.retain.proofs.better.Lts as lts
+use Rattle.retain.proofs.one_by_one.better.Statement.{statement}
+use Rattle.retain.proofs.one_by_one.better.Tie as tie
+use Rattle.retain.proofs.one_by_one.better.Reads as reads
+use Rattle.retain.proofs.one_by_one.better.Lts as lts
 use Rattle.retain.proofs.stay.is_open.Reads as is-open-reads
 
 returns : tie.Need-returns

@@ -11,11 +11,11 @@ use lib.Seq.{drop-cons}
 use Rattle.retain.specs.declared.Least.{Least}
 use Rattle.retain.specs.Found.{leastFrom, betterThan}
 use borrow.Author.Needs.{needs}
-use Rattle.retain.proofs.least_open.Statement.{statement}
-use Rattle.retain.proofs.least_open.Tie as tie
-use Rattle.retain.proofs.least_open.Reads as reads
-use Rattle.retain.proofs.least_open.Lts as lts
-use Rattle.retain.proofs.better.Reads as better-reads
+use Rattle.retain.proofs.one_by_one.least_open.Statement.{statement}
+use Rattle.retain.proofs.one_by_one.least_open.Tie as tie
+use Rattle.retain.proofs.one_by_one.least_open.Reads as reads
+use Rattle.retain.proofs.one_by_one.least_open.Lts as lts
+use Rattle.retain.proofs.one_by_one.better.Reads as better-reads
 
 turn : (corners : List ℕ) (limit : ℕ) (times : List ℕ) (found : Bool) (best i : ℕ) → i < length times
     → leastFrom corners limit (drop i times) found best

@@ -1,7 +1,7 @@
 // Filter, split, suffix and meld: chunks out of chunks. Every word of each lent output is compared.
 
 // A without its first two records.
-fn later() -> [u64; 18] {
+pub fn later() -> [u64; 18] {
     [
         2,
         2,
@@ -45,7 +45,7 @@ fn earlier() -> [u64; 14] {
 }
 
 // A merged with B, filtered, as the document gives it.
-fn cleaned() -> [u64; 16] {
+pub fn cleaned() -> [u64; 16] {
     [
         1,
         2,

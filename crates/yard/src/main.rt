@@ -21,6 +21,7 @@ fn main() {
     cuts::splits();
     extracts::extracts();
     merges::merges();
+    merges::wholes();
     cuts::suffixes();
     cuts::melds();
     surveys::surveys();

@@ -136,3 +136,69 @@ fn orders(a: &[u64], none: &[u64]) {
         merged(a, &bad, 60, 9, 60, [5, 0, 0, 0, 0], [5; 64]),
     );
 }
+
+// The whole merge with so many words for the filter's output and for the suffix's; the merge's own output is compared too.
+fn wholly(
+    a: &[u64],
+    b: &[u64],
+    clean: usize,
+    rest: usize,
+    told: [u64; 5],
+    cleaned: [u64; 64],
+    left: [u64; 64],
+) -> bool {
+    if 64 < clean {
+        return false;
+    }
+    if 64 < rest {
+        return false;
+    }
+    let mut reports = [9; 64];
+    let mut one = [5; 64];
+    let mut two = [5; 64];
+    let mut three = [5; 64];
+    let got = whole::merge_whole(
+        a,
+        b,
+        &mut reports[0..42],
+        &mut one[0..38],
+        &mut two[0..clean],
+        &mut three[0..rest],
+    );
+    let said = numbers(got);
+    let both = crate::ground::cancelled();
+    if !crate::same(&said, &told) {
+        return false;
+    }
+    if !crate::same64(&one, &crate::front(&both)) {
+        return false;
+    }
+    if !crate::same64(&two, &cleaned) {
+        return false;
+    }
+    crate::same64(&three, &left)
+}
+
+pub fn wholes() {
+    let a = crate::chunk_a();
+    let b = crate::surveys::chunk_b();
+    let clean = crate::cuts::cleaned();
+    let rest = crate::cuts::later();
+    whole_pair(&a, &b, crate::front(&clean), crate::front(&rest));
+}
+
+// What was written before a refusal stays.
+fn whole_pair(a: &[u64], b: &[u64], clean: [u64; 64], rest: [u64; 64]) {
+    crate::say(
+        b"merge_whole: A and B, filtered, and A's suffix",
+        wholly(a, b, 18, 26, [0, 1, 0, 1, 2], clean, rest),
+    );
+    crate::say(
+        b"merge_whole: a word short for the filter",
+        wholly(a, b, 17, 26, [13, 0, 0, 0, 0], [5; 64], [5; 64]),
+    );
+    crate::say(
+        b"merge_whole: a word short for the suffix",
+        wholly(a, b, 18, 25, [13, 0, 0, 0, 0], clean, [5; 64]),
+    );
+}

@@ -221,10 +221,14 @@ module _ (w : List ℕ) (f : wellFormed w ≡ true) (leaf : ℕ → Bool) where
         diffsByOne = step-by-one (diffEndBody w) (nd w) (parts w f .diffEndsStep);
       }
 
+  -- as many entries stand as there are diffs
+  pub stand-count : length (keep stands es) ≡ nd w
+  stand-count = sym (length-map (keep stands es) (λ (e : Entry). e .diff)) ∙ ap length diffs-in ∙ length-diffs (contentsOf w) w its-place
+
   few-times : countKept timeStays 0 (length (timeBody w)) ≤ nd w
   few-times =
       let a : length fs ≤ length (keep stands es) = picked-few leaf (diffEndBody w) es 0 0 (sym diffEnds-in) refl in
-      let b : length (keep stands es) ≡ nd w = sym (length-map (keep stands es) (λ (e : Entry). e .diff)) ∙ ap length diffs-in ∙ length-diffs (contentsOf w) w its-place in
+      let b = stand-count in
       let d = out-count in omega arith
 
   -- the lists and items counted are those of the bodies

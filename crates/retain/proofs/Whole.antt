@@ -1,38 +1,23 @@
--- How many entries stay, and the chunk of them where all do or none does.
-use Prim.Native.Nat.{ℕ, suc, _-_, _≤_}
+-- The chunk of the entries that stay, where all do or none does.
+use Prim.Native.Nat.{ℕ, suc, _≤_}
 use mathlib.Core.Path.{_≡_, refl, sym, _∙_, ap}
 use mathlib.Core.Bool.{Bool, true}
 use mathlib.Core.List.{List, [], _∷_, _++_}
 use native.Mathlib.Omega.{arith}
 use lib.ListN.{length, take, drop}
 use lib.Seq.{length-take-le}
-use Rattle.chunk.specs.declared.Contents.{Contents}
 use Rattle.chunk.specs.Entry.{Entry, keep}
 use Rattle.chunk.specs.Bodies.{chunkOf, lastsOf, endsOf, diffEndsFrom}
 use Rattle.chunk.specs.Words.{wellFormed, entries, over, size, nt, timeBody, diffEndBody}
-use Rattle.chunk.specs.Contents.{Placed, withTable}
-use Rattle.chunk.proofs.Placed.{cut-times, cut-diff-ends}
+use Rattle.chunk.specs.Contents.{withTable}
 use Rattle.laws.proofs.Tests.{by-test}
 use Rattle.laws.proofs.OneChunk.{front-is-chunk}
 use Rattle.retain.specs.declared.Keep.{Keep}
-use Rattle.retain.specs.Keep.{keepsAt, timeKept, retainedOf}
-use Rattle.retain.specs.Layers.{countKept, pick}
+use Rattle.retain.specs.Keep.{timeKept, retainedOf}
+use Rattle.retain.specs.Layers.{pick}
 use Rattle.retain.proofs.Filtered.{length-pick}
 use Rattle.retain.proofs.Counts.{count-most}
-use Rattle.retain.proofs.Retained.{out-count}
 use Rattle.retain.proofs.Parts.{table-front}
-
--- as many stay as times that do, cut out of the words
-pub items-count : (found : Contents) (w : List ℕ) (k : Keep) (corners : List ℕ) → Placed found w → wellFormed w ≡ true
-    → countKept (timeKept k (take (found .«diff_ends_at» - found .«times_at») (drop (found .«times_at») w)) corners (take (found .«diffs_at» - found .«diff_ends_at») (drop (found .«diff_ends_at») w))) 0
-    (length (take (found .«diff_ends_at» - found .«times_at») (drop (found .«times_at») w)) - 0)
-    ≡ length (retainedOf k corners w)
-unfolding retainedOf
-items-count found w k corners p formed =
-    let z : length (timeBody w) - 0 ≡ length (timeBody w) = omega arith in
-    (λ i. countKept (timeKept k (cut-times found w p i) corners (cut-diff-ends found w p i)) 0 (length (cut-times found w p i) - 0))
-    ∙ ap (countKept (timeKept k (timeBody w) corners (diffEndBody w)) 0) z
-    ∙ sym (out-count w formed (keepsAt k (timeBody w) corners))
 
 pick-whole : {A : Type 0} (m : ℕ → Bool) (i : ℕ) (l : List A) → length (pick m i l) ≡ length l → pick m i l ≡ l
 unfolding pick

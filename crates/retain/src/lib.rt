@@ -19,7 +19,6 @@ use runs::copy;
 use runs::write_run;
 use stay::count_below;
 use stay::count_lists;
-use stay::count_times;
 use stay::is_open;
 use stay::run_end;
 
@@ -262,21 +261,6 @@ fn retain_counted(
     retain_some(words, found, keep, corners, nt, out);
 }
 
-// Counts the entries that stay, and writes the chunk of them.
-fn retain_items(words: &[u64], found: Contents, keep: Keep, corners: &[u64], out: &mut [u64])
-    requires { ⌜ (wellFormed (now words) ≡ true) × Placed found (now words) ⌝ }
-    requires { ⌜ (ordered (now corners) ≡ true) × (size (now words) ≤ length (now out)) ⌝ }
-    ensures { λ _. ⌜ now (out .exit) ≡ over (chunkOf (retainedOf keep (now (corners .entry)) (now (words .entry)))) (now (out .entry)) ⌝ }
-{
-    let times_at = found.times_at;
-    let diff_ends_at = found.diff_ends_at;
-    let diffs_at = found.diffs_at;
-    let times = &words[times_at..diff_ends_at];
-    let diff_ends = &words[diff_ends_at..diffs_at];
-    let nt = count_times(keep, times, corners, diff_ends, 0, times.len());
-    retain_counted(words, found, keep, corners, nt, out);
-}
-
 // Filter: times without a diff go, then values and keys left without children. 5 where the chunk isn't well formed, 13 where `out` is short.
 pub fn filter_zero(words: &[u64], out: &mut [u64]) -> u64
     ensures { λ r. ⌜ (r ≡ filterNumber (now (words .entry)) (now (out .entry))) × (now (out .exit) ≡ filterOut (now (words .entry)) (now (out .entry))) ⌝ }
@@ -291,7 +275,8 @@ pub fn filter_zero(words: &[u64], out: &mut [u64]) -> u64
     if out.len() < size {
         return 13;
     }
-    retain_items(words, found, Keep::All, &words[0..0], out);
+    let nd = found.nd;
+    retain_counted(words, found, Keep::All, &words[0..0], nd, out);
     0
 }
 

@@ -1,28 +1,26 @@
 -- `retain::filter_zero` meets its contract: each refusal leaves the output, and what is retained is what stands.
-use Prim.Native.Nat.{ℕ, zero, suc, _<_, _≤_}
+use Prim.Native.Nat.{ℕ, _<_, _≤_}
 use mathlib.Core.Path.{_≡_, refl, sym, _∙_, ap}
-use mathlib.Core.Bool.{Bool, true, false, not}
+use mathlib.Core.Bool.{true, false}
 use mathlib.Core.List.{List, []}
 use native.Mathlib.Omega.{arith}
 use lib.ListN.{length}
-use lib.Dec.{ltb}
 use borrow.Author.Tests.{lt-ltb, le-ltb}
 use Rattle.chunk.specs.Entry.{Entry, keep, stands}
 use Rattle.chunk.specs.Bodies.{chunkOf}
-use Rattle.chunk.specs.Words.{wellFormed, entries, size, over}
+use Rattle.chunk.specs.Words.{wellFormed, entries, size, over, nd}
 use Rattle.chunk.specs.Refusal.{first, written}
 use Rattle.retain.specs.Cut.{filterNumber, filterOut}
+use Rattle.retain.specs.declared.Keep.the-variants.{All}
+use Rattle.retain.specs.Keep.{retainedOf}
 use Rattle.retain.specs.Frontier.{ordered}
-use Rattle.retain.proofs.Checked.{Passed, passed, Failed, failed}
+use Rattle.retain.proofs.Checked.{passed, failed}
+use Rattle.retain.proofs.Retained.{stand-count}
 use Rattle.retain.proofs.Picks.{retained-all}
 use borrow.Author.Needs.{needs}
 use borrow.Author.Needs.{needs}
 use Rattle.retain.proofs.filter_zero.Statement.{statement}
 use Rattle.retain.proofs.filter_zero.Tie as tie
-use Rattle.retain.proofs.filter_zero.Reads as reads
-use Rattle.retain.proofs.filter_zero.Lts as lts
-use Rattle.chunk.proofs.check.Reads as check-reads
-use Rattle.retain.proofs.retain_items.Reads as retain-items-reads
 
 -- the number, and what the output holds
 Answer : ℕ → List ℕ → List ℕ → List ℕ → Type 0
@@ -40,6 +38,9 @@ accepted : (w out after : List ℕ) → wellFormed w ≡ true → size w ≤ len
 unfolding Answer filterNumber filterOut first written
 accepted w out after h k e = let q = le-ltb (length out) (size w) k in (simp (h, q), e ∙ simp (h, q))
 
+counted : (w : List ℕ) (n : ℕ) → wellFormed w ≡ true → n ≡ nd w → (corners : List ℕ) → n ≡ length (retainedOf All corners w)
+counted w n f e corners = e ∙ sym (stand-count w f (λ i. true)) ∙ ap length (sym (retained-all w f corners))
+
 check-requires : tie.Need-check-requires
 check-requires c κs = search needs
 
@@ -54,21 +55,21 @@ returns-2 c =
     let p = passed _ (a .words .now) (c .before .before .before .check .ensures) (c .before .before .if1 .left) in
     short (a .words .now) (a .out .now) (p .formed) (omega (arith, p .spread .sized))
 
-sub-retain-items : tie.Need-sub-retain-items
-sub-retain-items c = search needs
+sub-retain-counted : tie.Need-sub-retain-counted
+sub-retain-counted c = search needs
 
-part-retain-items-start : tie.Need-part-retain-items-start
-part-retain-items-start c = search needs
+part-retain-counted-start : tie.Need-part-retain-counted-start
+part-retain-counted-start c = search needs
 
-part-retain-items-end : tie.Need-part-retain-items-end
-part-retain-items-end c = search needs
+part-retain-counted-end : tie.Need-part-retain-counted-end
+part-retain-counted-end c = search needs
 
-retain-items-requires : tie.Need-retain-items-requires
+retain-counted-requires : tie.Need-retain-counted-requires
 unfolding ordered
-retain-items-requires c κs =
+retain-counted-requires c κs =
     let a = c .before .before .before .before .before .before .before .before .args in
     let p = passed _ (a .words .now) (c .before .before .before .before .before .check .ensures) (c .before .before .before .before .if1 .left) in
-    ((p .formed, p .spread), (refl, omega (arith, p .spread .sized)))
+    ((p .formed, p .spread), ((refl, omega (arith, p .spread .sized)), counted (a .words .now) _ (p .formed) (p .spread .diffCount) []))
 
 same-length : tie.Need-same-length
 same-length c = search needs
@@ -79,7 +80,7 @@ returns-3 c =
     let a = c .before .before .before .before .before .before .before .before .before .before .before .args in
     let p = passed _ (a .words .now) (c .before .before .before .before .before .before .before .before .check .ensures) (c .before .before .before .before .before .before .before .if1 .left) in
     accepted (a .words .now) (a .out .now) _ (p .formed) (omega (arith, p .spread .sized))
-    (c .before .before .retain-items .ensures ∙ ap (λ (es : List Entry). over (chunkOf es) (a .out .now)) (retained-all (a .words .now) (p .formed) _))
+    (c .before .before .retain-counted .ensures ∙ ap (λ (es : List Entry). over (chunkOf es) (a .out .now)) (retained-all (a .words .now) (p .formed) _))
 
 pub filter-zero-spec : {M : Type 1} → statement M
 filter-zero-spec =
@@ -88,9 +89,9 @@ filter-zero-spec =
     check-requires
     returns
     returns-2
-    sub-retain-items
-    part-retain-items-start
-    part-retain-items-end
-    retain-items-requires
+    sub-retain-counted
+    part-retain-counted-start
+    part-retain-counted-end
+    retain-counted-requires
     same-length
     returns-3)

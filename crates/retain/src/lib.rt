@@ -235,7 +235,7 @@ fn retain_some(
 }
 
 // The same: the whole chunk as it is where all stay, and the empty one where none does.
-fn retain_counted(
+fn retain_items(
     words: &[u64],
     found: Contents,
     keep: Keep,
@@ -276,7 +276,7 @@ pub fn filter_zero(words: &[u64], out: &mut [u64]) -> u64
         return 13;
     }
     let nd = found.nd;
-    retain_counted(words, found, Keep::All, &words[0..0], nd, out);
+    retain_items(words, found, Keep::All, &words[0..0], nd, out);
     0
 }
 
@@ -308,8 +308,8 @@ pub fn split_at(words: &[u64], n: u64, first: &mut [u64], rest: &mut [u64]) -> u
         cut = all;
     }
     let none = &words[0..0];
-    retain_counted(words, found, Keep::Below(at), none, cut, first);
-    retain_counted(words, found, Keep::From(at), none, all - cut, rest);
+    retain_items(words, found, Keep::Below(at), none, cut, first);
+    retain_items(words, found, Keep::From(at), none, all - cut, rest);
     0
 }
 
@@ -524,8 +524,8 @@ fn extract_open(
     let open = least.number;
     let all = found.nt;
     let verdict = verdict_of(open, all);
-    retain_counted(words, found, Keep::Open, corners, open, kept);
-    retain_counted(words, found, Keep::Shut, corners, all - open, shipped);
+    retain_items(words, found, Keep::Open, corners, open, kept);
+    retain_items(words, found, Keep::Shut, corners, all - open, shipped);
     Extracted {
         number: 0,
         verdict,

@@ -55,18 +55,18 @@ returns-2 c =
     let p = passed _ (a .words .now) (c .before .before .before .check .ensures) (c .before .before .if1 .left) in
     short (a .words .now) (a .out .now) (p .formed) (omega (arith, p .spread .sized))
 
-sub-retain-counted : tie.Need-sub-retain-counted
-sub-retain-counted c = search needs
+sub-retain-items : tie.Need-sub-retain-items
+sub-retain-items c = search needs
 
-part-retain-counted-start : tie.Need-part-retain-counted-start
-part-retain-counted-start c = search needs
+part-retain-items-start : tie.Need-part-retain-items-start
+part-retain-items-start c = search needs
 
-part-retain-counted-end : tie.Need-part-retain-counted-end
-part-retain-counted-end c = search needs
+part-retain-items-end : tie.Need-part-retain-items-end
+part-retain-items-end c = search needs
 
-retain-counted-requires : tie.Need-retain-counted-requires
+retain-items-requires : tie.Need-retain-items-requires
 unfolding ordered
-retain-counted-requires c κs =
+retain-items-requires c κs =
     let a = c .before .before .before .before .before .before .before .before .args in
     let p = passed _ (a .words .now) (c .before .before .before .before .before .check .ensures) (c .before .before .before .before .if1 .left) in
     ((p .formed, p .spread), ((refl, omega (arith, p .spread .sized)), counted (a .words .now) _ (p .formed) (p .spread .diffCount) []))
@@ -80,7 +80,7 @@ returns-3 c =
     let a = c .before .before .before .before .before .before .before .before .before .before .before .args in
     let p = passed _ (a .words .now) (c .before .before .before .before .before .before .before .before .check .ensures) (c .before .before .before .before .before .before .before .if1 .left) in
     accepted (a .words .now) (a .out .now) _ (p .formed) (omega (arith, p .spread .sized))
-    (c .before .before .retain-counted .ensures ∙ ap (λ (es : List Entry). over (chunkOf es) (a .out .now)) (retained-all (a .words .now) (p .formed) _))
+    (c .before .before .retain-items .ensures ∙ ap (λ (es : List Entry). over (chunkOf es) (a .out .now)) (retained-all (a .words .now) (p .formed) _))
 
 pub filter-zero-spec : {M : Type 1} → statement M
 filter-zero-spec =
@@ -89,9 +89,9 @@ filter-zero-spec =
     check-requires
     returns
     returns-2
-    sub-retain-counted
-    part-retain-counted-start
-    part-retain-counted-end
-    retain-counted-requires
+    sub-retain-items
+    part-retain-items-start
+    part-retain-items-end
+    retain-items-requires
     same-length
     returns-3)

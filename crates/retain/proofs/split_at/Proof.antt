@@ -108,21 +108,21 @@ part-none-start c = search needs
 part-none-end : tie.Need-part-none-end
 part-none-end c = search needs
 
-retain-counted-requires : tie.Need-retain-counted-requires
+retain-items-requires : tie.Need-retain-items-requires
 unfolding ordered
-retain-counted-requires c κs =
+retain-items-requires c κs =
     let a = c .before .before .before .before .before .before .before .before .before .before .before .before .args in
     let p = passed _ (a .words .now) (c .before .before .before .before .before .before .before .before .check .ensures) (c .before .before .before .before .before .before .before .if1 .left) in
     let s : settled (a .words .now) ≡ true = sym (p .settles) ∙ not-false _ (c .before .before .before .before .before .before .if2 .left) in
     let m : c .before .before .if5 .cut ≡ min (a .n) (c .before .before .before .before .before .before .before .before .check .result .contents .nt) = ⊎-elim (λ w. least-all _ _ _ (w .0 .taken) (w .1)) (λ w. least-cut _ _ _ (w .0 .left) (w .1)) (c .before .before .if5 .came) in
     ((p .formed, p .spread), ((refl, omega (arith, p .spread .sized)), first-count (a .words .now) (a .n) _ _ (p .formed) s (p .spread .timeCount) [] m))
 
-sub-retain-counted : tie.Need-sub-retain-counted
-sub-retain-counted c = ⊎-elim (λ w. let e = w .1 in omega arith) (λ w. let e = w .1 in let l = w .0 .left in omega arith) (c .before .before .before .before .before .before .if5 .came)
+sub-retain-items : tie.Need-sub-retain-items
+sub-retain-items c = ⊎-elim (λ w. let e = w .1 in omega arith) (λ w. let e = w .1 in let l = w .0 .left in omega arith) (c .before .before .before .before .before .before .if5 .came)
 
-retain-counted-requires-2 : tie.Need-retain-counted-requires-2
+retain-items-requires-2 : tie.Need-retain-items-requires-2
 unfolding ordered
-retain-counted-requires-2 c κs =
+retain-items-requires-2 c κs =
     let a = c .before .before .before .before .before .before .before .before .before .before .before .before .before .before .before .before .before .args in
     let p = passed _ (a .words .now) (c .before .before .before .before .before .before .before .before .before .before .before .before .before .check .ensures) (c .before .before .before .before .before .before .before .before .before .before .before .before .if1 .left) in
     let s : settled (a .words .now) ≡ true = sym (p .settles) ∙ not-false _ (c .before .before .before .before .before .before .before .before .before .before .before .if2 .left) in
@@ -142,8 +142,8 @@ returns-5 c =
     let s : settled (a .words .now) ≡ true = sym (p .settles) ∙ not-false _ (c .before .before .before .before .before .before .before .before .before .before .before .before .before .before .if2 .left) in
     let v : every stands (entries (a .words .now)) ≡ true = sym (settled-stands (a .words .now) (p .formed)) ∙ s in
     accepted (a .words .now) (a .n) (a .first .now) (a .rest .now) _ _ (p .formed) s (omega (arith, p .spread .sized)) (omega (arith, p .spread .sized))
-    (c .before .before .before .before .before .before .before .retain-counted .ensures ∙ ap (λ (es : List Entry). over (chunkOf es) (a .first .now)) (retained-below (a .words .now) (p .formed) _ v (a .n)))
-    (c .before .before .retain-counted2 .ensures ∙ ap (λ (es : List Entry). over (chunkOf es) (a .rest .now)) (retained-from (a .words .now) (p .formed) _ v (a .n)))
+    (c .before .before .before .before .before .before .before .retain-items .ensures ∙ ap (λ (es : List Entry). over (chunkOf es) (a .first .now)) (retained-below (a .words .now) (p .formed) _ v (a .n)))
+    (c .before .before .retain-items2 .ensures ∙ ap (λ (es : List Entry). over (chunkOf es) (a .rest .now)) (retained-from (a .words .now) (p .formed) _ v (a .n)))
 
 pub split-at-spec : {M : Type 1} → statement M
 split-at-spec =
@@ -157,9 +157,9 @@ split-at-spec =
     sub-none
     part-none-start
     part-none-end
-    retain-counted-requires
-    sub-retain-counted
-    retain-counted-requires-2
+    retain-items-requires
+    sub-retain-items
+    retain-items-requires-2
     same-length
     same-length-2
     returns-5)

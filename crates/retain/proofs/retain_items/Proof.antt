@@ -1,4 +1,4 @@
--- `retain::retain_counted` meets its contract: by how many stay.
+-- `retain::retain_items` meets its contract: by how many stay.
 use mathlib.Core.Path.{sym, _∙_}
 use mathlib.Core.List.{_++_}
 use native.Mathlib.Omega.{arith}
@@ -6,8 +6,8 @@ use lib.ListN.{take, drop}
 use lib.Seq.{length-take-le}
 use Rattle.retain.proofs.Whole.{whole-chunk, no-chunk}
 use borrow.Author.Needs.{needs}
-use Rattle.retain.proofs.retain_counted.Statement.{statement}
-use Rattle.retain.proofs.retain_counted.Tie as tie
+use Rattle.retain.proofs.retain_items.Statement.{statement}
+use Rattle.retain.proofs.retain_items.Tie as tie
 
 slice-aggregate-copy : tie.Need-slice-aggregate-copy
 slice-aggregate-copy c = let a = c .before .before .before .before .before in let p = a .pre .0 .1 in sym (length-take-le (a .args .found .size) (a .args .words .now) (omega (arith, p .sized, p .within)))
@@ -56,8 +56,8 @@ same-length-3 c = search needs
 returns-3 : tie.Need-returns-3
 returns-3 c = search needs
 
-pub retain-counted-spec : {M : Type 1} → statement M
-retain-counted-spec =
+pub retain-items-spec : {M : Type 1} → statement M
+retain-items-spec =
     tie.close
     (tie.spec
     slice-aggregate-copy

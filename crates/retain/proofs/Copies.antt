@@ -5,7 +5,7 @@ use mathlib.Core.List.{List, [], _∷_, _++_, append-nil}
 use native.Mathlib.Omega.{arith}
 use native.Mathlib.Numerals.{add-one}
 use lib.ListN.{length, take, drop, getD, set, replicate, length-append, length-drop, length-replicate, drop-of-length-le}
-use lib.Seq.{drop-cons, take-suc, set-at, length-take-le, append-snoc, getD-append-add, getD-drop}
+use lib.Seq.{drop-cons, take-suc, set-at, length-take-le, append-snoc, getD-append-add, getD-drop, take-all, paste, paste-suc, sets, sets-eq}
 
 -- what the slice holds before turn i
 abbrev pub partly : List ℕ → List ℕ → ℕ → List ℕ
@@ -31,6 +31,16 @@ pub partly-end : (dst src : List ℕ) (i : ℕ) → i ≤ length dst → length 
 partly-end dst src i h k =
     let e : i ≡ length dst = omega arith in
     ap (λ (x : List ℕ). take i src ++ x) (drop-of-length-le dst k) ∙ append-nil (take i src) ∙ ap (λ (n : ℕ). take n src) e
+
+-- ---- from a place on
+
+pub pasted-step : (d s : List ℕ) (at i : ℕ) {x : List ℕ} {v : ℕ} → at + i < length d → i < length s → x ≡ paste d at s i → v ≡ getD s i 0 → set x (at + i) v ≡ paste d at s (i + 1)
+pasted-step d s at i h k e q = (λ j. set (e j) (at + i) (q j)) ∙ paste-suc d at s i 0 h k ∙ ap (paste d at s) (sym (add-one i))
+
+pub pasted-end : (d s : List ℕ) (at i : ℕ) → at + length s ≤ length d → i ≤ length s → length s ≤ i → paste d at s i ≡ sets d at s
+pasted-end d s at i h k l =
+    let e : i ≡ length s = omega arith in
+    ap (paste d at s) e ∙ ap (λ (x : List ℕ). take at d ++ x ++ drop (at + length s) d) (take-all (length s) s (omega arith)) ∙ sym (sets-eq s d at h)
 
 -- ---- shifts
 

@@ -8,13 +8,11 @@ use lib.Dec.{ltb}
 use lib.ListN.{length, getD, take, drop, length-append}
 use lib.Seq.{sets, length-sets, drop-cons}
 use borrow.Author.Tests.{ltb-true, ltb-false}
-use borrow.Rule.Slice.PartMut.{putMid}
 use Rattle.chunk.specs.Contents.{startOf}
 use Rattle.laws.proofs.Tests.{by-test}
 use Rattle.retain.specs.Layers.{countKept, pickAt, countUp, leavesOut, hasDiff, EndsWithin, EndsByOne, KeptRun}
 use Rattle.retain.proofs.Counts.{count-out, count-none}
-use Rattle.retain.proofs.Stores.{sets-sets, sets-append, put-sets, fill-three}
-use Rattle.retain.proofs.Parts.{part-length}
+use Rattle.retain.proofs.Stores.{sets-sets, sets-append, fill-three}
 
 length-pickAt : (m : ℕ → Bool) (f : ℕ → ℕ) (i n : ℕ) → length (pickAt m f i n) ≡ countKept m i n
 unfolding pickAt countKept
@@ -106,22 +104,6 @@ pick-out m f i to h k =
 pick-none : (m : ℕ → Bool) (f : ℕ → ℕ) (i to : ℕ) → to ≤ i → pickAt m f i (to - i) ≡ []
 unfolding pickAt
 pick-none m f i to h = let q : to - i ≡ 0 = omega arith in simp q
-
--- a run of each put into its third
-pub put-run : (out t d x y z : List ℕ) (n at : ℕ) → at + length t ≤ n → length out ≡ n + (n + n) → length d ≡ length t → x ≡ t
-    → y ≡ countUp at (length (take (n + (at + length t) - (n + at)) (drop (n + at) (putMid at (at + length t - at) out x)))) → z ≡ d
-    → putMid (n + n + at) (n + n + (at + length t) - (n + n + at)) (putMid (n + at) (n + (at + length t) - (n + at)) (putMid at (at + length t - at) out x) y) z
-    ≡ sets (sets (sets out at t) (n + at) (countUp at (length t))) (n + n + at) d
-put-run out t d x y z n at h ho hd ex ey ez =
-    let l1 : length (sets out at t) ≡ length out = length-sets out at t in
-    let l2 : length (sets (sets out at t) (n + at) (countUp at (length t))) ≡ length (sets out at t) = length-sets (sets out at t) (n + at) (countUp at (length t)) in
-    let lc : length (countUp at (length t)) ≡ length t = length-countUp at (length t) in
-    let o1 : putMid at (at + length t - at) out x ≡ sets out at t = ap (putMid at (at + length t - at) out) ex ∙ put-sets out t at (at + length t) (omega arith) (omega arith) (omega arith) in
-    let le : length (take (n + (at + length t) - (n + at)) (drop (n + at) (sets out at t))) ≡ length t = part-length (sets out at t) (n + at) (n + (at + length t)) (length t) (omega arith) (omega arith) in
-    let fy : y ≡ countUp at (length t) = ey ∙ (λ i. countUp at (length (take (n + (at + length t) - (n + at)) (drop (n + at) (o1 i))))) ∙ ap (countUp at) le in
-    (λ i. putMid (n + n + at) (n + n + (at + length t) - (n + n + at)) (putMid (n + at) (n + (at + length t) - (n + at)) (o1 i) (fy i)) (ez i))
-    ∙ ap (λ (l : List ℕ). putMid (n + n + at) (n + n + (at + length t) - (n + n + at)) l d) (put-sets (sets out at t) (countUp at (length t)) (n + at) (n + (at + length t)) (omega arith) (omega arith) (omega arith))
-    ∙ put-sets (sets (sets out at t) (n + at) (countUp at (length t))) d (n + n + at) (n + n + (at + length t)) (omega arith) (omega arith) (omega arith)
 
 -- three bodies, a run of each
 three : (out a b d I E D : List ℕ) (at n k : ℕ) → k ≡ length a → k ≡ length b → k ≡ length d → at + k + length I ≤ n → at + k + length E ≤ n

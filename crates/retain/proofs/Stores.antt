@@ -1,11 +1,10 @@
 -- Bodies that stand one after the other in a part of the output, filled side by side.
-use Prim.Native.Nat.{ℕ, suc, _+_, _-_, _≤_}
-use mathlib.Core.Path.{_≡_, refl, sym, _∙_, ap}
-use mathlib.Core.List.{List, [], _∷_, _++_, append-nil, append-assoc}
+use Prim.Native.Nat.{ℕ, suc, _+_, _≤_}
+use mathlib.Core.Path.{_≡_, refl, _∙_, ap}
+use mathlib.Core.List.{List, [], _∷_, _++_, append-nil}
 use native.Mathlib.Omega.{arith}
-use lib.ListN.{length, take, drop, set, length-drop, drop-of-length-le}
-use lib.Seq.{sets, sets-eq, set-comm, drop-drop}
-use borrow.Rule.Slice.PartMut.{putMid}
+use lib.ListN.{length, drop, set, length-drop, drop-of-length-le}
+use lib.Seq.{sets, sets-eq, set-comm}
 
 -- a store past a run, or before it, and the run
 pub set-sets : (vs l : List ℕ) (i k a : ℕ) → i + length vs ≤ k → set (sets l i vs) k a ≡ sets (set l k a) i vs
@@ -23,13 +22,6 @@ sets-sets us (v ∷ vs) l i k h =
 pub sets-append : (us vs l : List ℕ) (i : ℕ) → sets l i (us ++ vs) ≡ sets (sets l i us) (i + length us) vs
 sets-append [] vs l i = let e : i ≡ i + 0 = omega arith in ap (λ (k : ℕ). sets l k vs) e
 sets-append (u ∷ us) vs l i = let e : suc i + length us ≡ i + suc (length us) = omega arith in sets-append us vs (set l i u) (suc i) ∙ ap (λ (k : ℕ). sets (sets (set l i u) (suc i) us) k vs) e
-
--- a part put back is a run
-pub put-sets : (l vs : List ℕ) (a e : ℕ) → a ≤ e → e ≤ length l → length vs ≡ e - a → putMid a (e - a) l vs ≡ sets l a vs
-put-sets l vs a e h k n =
-    let q : e - a ≡ length vs = sym n in
-    ap (λ (x : List ℕ). take a l ++ (vs ++ x)) (ap (λ (j : ℕ). drop j (drop a l)) q ∙ drop-drop (length vs) a l)
-    ∙ sym (append-assoc (take a l) vs (drop (a + length vs) l)) ∙ sym (sets-eq vs l a (omega arith))
 
 set-past : (p q : List ℕ) (i a : ℕ) → set (p ++ q) (length p + i) a ≡ p ++ set q i a
 set-past [] q i a = let e : 0 + i ≡ i = omega arith in simp e

@@ -2,10 +2,10 @@
 use Prim.Native.Nat.{ℕ, suc, _≤_}
 use mathlib.Core.Path.{_≡_, refl, sym, _∙_, ap}
 use mathlib.Core.Bool.{Bool, true}
-use mathlib.Core.List.{List, [], _∷_, _++_}
+use mathlib.Core.List.{List, [], _∷_}
 use native.Mathlib.Omega.{arith}
-use lib.ListN.{length, take, drop}
-use lib.Seq.{length-take-le}
+use lib.ListN.{length, take}
+use lib.Seq.{length-take-le, sets}
 use Rattle.chunk.specs.Entry.{Entry, keep}
 use Rattle.chunk.specs.Bodies.{chunkOf, lastsOf, endsOf, diffEndsFrom}
 use Rattle.chunk.specs.Words.{wellFormed, entries, over, size, nt, timeBody, diffEndBody}
@@ -18,6 +18,7 @@ use Rattle.retain.specs.Layers.{pick}
 use Rattle.retain.proofs.Filtered.{length-pick}
 use Rattle.retain.proofs.Counts.{count-most}
 use Rattle.retain.proofs.Parts.{table-front}
+use Rattle.retain.proofs.Stores.{sets-front}
 
 pick-whole : {A : Type 0} (m : ℕ → Bool) (i : ℕ) (l : List A) → length (pick m i l) ≡ length l → pick m i l ≡ l
 unfolding pick
@@ -38,11 +39,12 @@ module _ (k : Keep) (corners w : List ℕ) (formed : wellFormed w ≡ true) wher
   all-stay h = pick-whole (timeKept k (timeBody w) corners (diffEndBody w)) 0 (entries w) (h ∙ sym (front-is-chunk w formed .counted))
 
   -- all stay: the front of the words as it is
-  pub whole-chunk : (out : List ℕ) → length (retainedOf k corners w) ≡ nt w → size w ≤ length w → take (size w) w ++ drop (size w) out ≡ over (chunkOf (retainedOf k corners w)) out
-  whole-chunk out h b =
-      let f : take (size w) w ≡ chunkOf (retainedOf k corners w) = front-is-chunk w formed .front ∙ ap chunkOf (sym (all-stay h)) in
-      let n : length (take (size w) w) ≡ size w = length-take-le (size w) w b in
-      ap (λ (x : ℕ). take (size w) w ++ drop x out) (sym n) ∙ ap (λ (c : List ℕ). over c out) f
+  pub whole-chunk : (out : List ℕ) (n : ℕ) → length (retainedOf k corners w) ≡ nt w → n ≡ size w → size w ≤ length w → size w ≤ length out
+      → sets out 0 (take n w) ≡ over (chunkOf (retainedOf k corners w)) out
+  whole-chunk out n h e a b =
+      let l : length (take n w) ≡ n = length-take-le n w (omega arith) in
+      sets-front (take n w) out (omega arith) ∙ ap (λ (j : ℕ). over (take j w) out) e
+      ∙ ap (λ (c : List ℕ). over c out) (front-is-chunk w formed .front ∙ ap chunkOf (sym (all-stay h)))
 
   -- none stays: the empty table
   pub no-chunk : (out : List ℕ) → length (retainedOf k corners w) ≡ 0 → 4 ≤ length out → withTable 0 0 0 0 out ≡ over (chunkOf (retainedOf k corners w)) out

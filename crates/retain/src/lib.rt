@@ -185,7 +185,7 @@ fn write_bodies(
     );
 }
 
-// Writes the chunk of the entries that stay, so many of them: the items that pass, and above them the lists that are not left empty, layer by layer.
+// Writes the chunk of the entries that stay, so many of them, layer by layer: the items that pass, and above them the lists that are not left empty.
 fn retain_some(
     words: &[u64],
     found: Contents,
@@ -234,7 +234,7 @@ fn retain_some(
     );
 }
 
-// The same: the whole chunk as it is where all stay, and the empty one where none does.
+// The same, or less: the whole chunk as it is where all stay, and the empty one where none does.
 fn retain_items(
     words: &[u64],
     found: Contents,
@@ -251,7 +251,7 @@ fn retain_items(
     let all = found.nt;
     let size = found.size;
     if nt == all {
-        copy(&words[..size], &mut out[..size]);
+        copy(&words[..size], out, 0);
         return;
     }
     if nt == 0 {

@@ -5,26 +5,26 @@ ghost use lib.ListN.{length};
 ghost use lib.Seq.{sets};
 ghost use Rattle.retain.specs.Layers.{countUp};
 
-// Copies a slice into one that is as long.
-pub(crate) fn copy(src: &[u64], dst: &mut [u64])
-    requires { ⌜ length (now dst) ≡ length (now src) ⌝ }
-    ensures { λ _. ⌜ now (dst .exit) ≡ now (src .entry) ⌝ }
+// Copies a slice into another, from a place on.
+pub(crate) fn copy(src: &[u64], dst: &mut [u64], at: usize)
+    requires { ⌜ at + length (now src) ≤ length (now dst) ⌝ }
+    ensures { λ _. ⌜ now (dst .exit) ≡ sets (now (dst .entry)) at (now (src .entry)) ⌝ }
 {
     let mut i = 0;
     while i < src.len() {
-        dst[i] = src[i];
+        dst[at + i] = src[i];
         i += 1;
     }
 }
 
-// Fills a slice with the numbers after `first`.
-fn count_up(first: usize, dst: &mut [u64])
-    requires { ⌜ first + length (now dst) < 18446744073709551616 ⌝ }
-    ensures { λ _. ⌜ now (dst .exit) ≡ countUp first (length (now (dst .entry))) ⌝ }
+// Writes the numbers after `first`, so many of them, from a place on.
+fn count_up(first: usize, n: usize, dst: &mut [u64], at: usize)
+    requires { ⌜ (at + n ≤ length (now dst)) × (first ≤ at) ⌝ }
+    ensures { λ _. ⌜ now (dst .exit) ≡ sets (now (dst .entry)) at (countUp first n) ⌝ }
 {
     let mut i = 0;
-    while i < dst.len() {
-        dst[i] = (first + i) as u64 + 1;
+    while i < n {
+        dst[at + i] = (first + i) as u64 + 1;
         i += 1;
     }
 }
@@ -34,12 +34,7 @@ pub(crate) fn write_run(times: &[u64], diffs: &[u64], n: usize, at: usize, out: 
     requires { ⌜ (length (now diffs) ≡ length (now times)) × ((at + length (now times) ≤ n) × (length (now out) ≡ n + (n + n))) ⌝ }
     ensures { λ _. ⌜ now (out .exit) ≡ sets (sets (sets (now (out .entry)) at (now (times .entry))) (n + at) (countUp at (length (now (times .entry))))) (n + n + at) (now (diffs .entry)) ⌝ }
 {
-    let end = at + times.len();
-    let ends_at = n + at;
-    let ends_end = n + end;
-    let diffs_at = n + n + at;
-    let diffs_end = n + n + end;
-    copy(times, &mut out[at..end]);
-    count_up(at, &mut out[ends_at..ends_end]);
-    copy(diffs, &mut out[diffs_at..diffs_end]);
+    copy(times, out, at);
+    count_up(at, times.len(), out, n + at);
+    copy(diffs, out, n + n + at);
 }

@@ -1,8 +1,6 @@
 -- `retain::retain_items` meets its contract: by how many stay.
 use mathlib.Core.Path.{sym, _∙_}
-use mathlib.Core.List.{_++_}
 use native.Mathlib.Omega.{arith}
-use lib.ListN.{take, drop}
 use lib.Seq.{length-take-le}
 use Rattle.retain.proofs.Whole.{whole-chunk, no-chunk}
 use borrow.Author.Needs.{needs}
@@ -12,17 +10,12 @@ use Rattle.retain.proofs.retain_items.Tie as tie
 slice-aggregate-copy : tie.Need-slice-aggregate-copy
 slice-aggregate-copy c = let a = c .before .before .before .before .before in let p = a .pre .0 .1 in sym (length-take-le (a .args .found .size) (a .args .words .now) (omega (arith, p .sized, p .within)))
 
-slice-relend-prefix-copy : tie.Need-slice-relend-prefix-copy
-slice-relend-prefix-copy c = search needs
-
-slice-aggregate-copy-2 : tie.Need-slice-aggregate-copy-2
-slice-aggregate-copy-2 c = let a = c .before .before .before .before .before .before in let p = a .pre .0 .1 in sym (length-take-le (a .args .found .size) (a .args .out .now) (omega (arith, p .sized, a .pre .1 .0 .1)))
-
 copy-requires : tie.Need-copy-requires
 copy-requires c κs =
     let a = c .before .before .before .before .before .before in
     let p = a .pre .0 .1 in
-    length-take-le (a .args .found .size) (a .args .out .now) (omega (arith, p .sized, a .pre .1 .0 .1)) ∙ sym (length-take-le (a .args .found .size) (a .args .words .now) (omega (arith, p .sized, p .within)))
+    let l = length-take-le (a .args .found .size) (a .args .words .now) (omega (arith, p .sized, p .within)) in
+    omega (arith, p .sized, a .pre .1 .0 .1)
 
 same-length : tie.Need-same-length
 same-length c = search needs
@@ -31,9 +24,8 @@ returns : tie.Need-returns
 returns c =
     let a = c .before .before .before .before .before .before .before .before .before in
     let p = a .pre .0 .1 in
-    (λ i. c .before .before .copy .ensures i ++ drop (a .args .found .size) (a .args .out .now))
-    ∙ (λ i. take (p .sized i) (a .args .words .now) ++ drop (p .sized i) (a .args .out .now))
-    ∙ whole-chunk (a .args .keep) (a .args .corners .now) (a .args .words .now) (a .pre .0 .0) (a .args .out .now) (sym (a .pre .1 .1) ∙ c .before .before .before .before .before .if1 .taken ∙ p .timeCount) (p .within)
+    c .before .before .copy .ensures
+    ∙ whole-chunk (a .args .keep) (a .args .corners .now) (a .args .words .now) (a .pre .0 .0) (a .args .out .now) (a .args .found .size) (sym (a .pre .1 .1) ∙ c .before .before .before .before .before .if1 .taken ∙ p .timeCount) (p .sized) (p .within) (a .pre .1 .0 .1)
 
 write-table-requires : tie.Need-write-table-requires
 write-table-requires c κs = search needs
@@ -61,8 +53,6 @@ retain-items-spec =
     tie.close
     (tie.spec
     slice-aggregate-copy
-    slice-relend-prefix-copy
-    slice-aggregate-copy-2
     copy-requires
     same-length
     returns

@@ -1,31 +1,34 @@
 -- `retain::runs::count_up` meets its contract.
 use Prim.Native.Nat.{_+_, _-_, _≤_}
-use mathlib.Core.Path.{_≡_, sym, _∙_}
+use mathlib.Core.Path.{_≡_, refl, sym, _∙_}
 use native.Mathlib.Omega.{arith}
 use native.Mathlib.Numerals.{add-one}
 use lib.ListN.{length, length-set}
-use lib.Seq.{take-all}
+use lib.Seq.{paste, paste-zero}
 use Rattle.retain.specs.Layers.{countUp}
-use Rattle.retain.proofs.Copies.{partly, stepped, partly-end}
+use Rattle.retain.proofs.Copies.{pasted-step, pasted-end}
 use Rattle.retain.proofs.Leaving.{length-countUp, getD-countUp}
 use borrow.Author.Needs.{needs}
 use Rattle.retain.proofs.runs.count_up.Statement.{statement}
 use Rattle.retain.proofs.runs.count_up.Tie as tie
 
 abbrev Inv-loop : tie.InvT-loop
-Inv-loop first dst₀ i₀ dst i = (i ≤ length dst₀) × (length dst ≡ length dst₀) × (dst ≡ partly dst₀ (countUp first (length dst₀)) i)
+Inv-loop first n dst₀ at i₀ dst i = (i ≤ n) × (length dst ≡ length dst₀) × (dst ≡ paste dst₀ at (countUp first n) i)
 
 abbrev μ-loop : tie.MeasureT-loop
-μ-loop first dst₀ i₀ dst i = length dst₀ - i
+μ-loop first n dst₀ at i₀ dst i = n - i
 
 loop-holds : tie.Need-loop-holds Inv-loop μ-loop
-loop-holds c = search needs
+loop-holds c = (omega arith, refl, paste-zero (c .args .dst .now) (c .args .at) (countUp (c .args .first) (c .args .n)))
 
 add-dst : tie.Need-add-dst Inv-loop μ-loop
 add-dst c = search needs
 
 add-dst-2 : tie.Need-add-dst-2 Inv-loop μ-loop
 add-dst-2 c = search needs
+
+add-dst-3 : tie.Need-add-dst-3 Inv-loop μ-loop
+add-dst-3 c = search needs
 
 mul-dst : tie.Need-mul-dst Inv-loop μ-loop
 mul-dst c = search needs
@@ -43,11 +46,12 @@ loop-again : tie.Need-loop-again Inv-loop μ-loop
 loop-again c =
     let l = c .before .loop in
     let a = c .before .before in
-    let n = length-countUp (a .args .first) (length (a .args .dst .now)) in (
+    let e = a .pre .0 in
+    let n = length-countUp (a .args .first) (a .args .n) in (
       omega arith,
       simp length-set (l .inv .1),
-      stepped (a .args .dst .now) (countUp (a .args .first) (length (a .args .dst .now))) (l .i) (omega arith) (omega arith) (l .inv .2)
-          (add-one (a .args .first + l .i) ∙ sym (getD-countUp (a .args .first) (length (a .args .dst .now)) (l .i) (omega arith))),
+      pasted-step (a .args .dst .now) (countUp (a .args .first) (a .args .n)) (a .args .at) (l .i) (omega arith) (omega arith) (l .inv .2)
+          (add-one (a .args .first + l .i) ∙ sym (getD-countUp (a .args .first) (a .args .n) (l .i) (omega arith))),
     )
 
 same-length : tie.Need-same-length Inv-loop μ-loop
@@ -57,9 +61,8 @@ returns : tie.Need-returns Inv-loop μ-loop
 returns c =
     let l = c .before .loop in
     let a = c .before .before in
-    let n = length-countUp (a .args .first) (length (a .args .dst .now)) in
-    l .inv .2 ∙ partly-end (a .args .dst .now) (countUp (a .args .first) (length (a .args .dst .now))) (l .i) (omega arith) (omega arith)
-    ∙ take-all (length (a .args .dst .now)) (countUp (a .args .first) (length (a .args .dst .now))) (omega arith)
+    let n = length-countUp (a .args .first) (a .args .n) in
+    l .inv .2 ∙ pasted-end (a .args .dst .now) (countUp (a .args .first) (a .args .n)) (a .args .at) (l .i) (omega (arith, a .pre .0)) (omega (arith, l .inv .0)) (omega arith)
 
 pub count-up-spec : {M : Type 1} → statement M
 count-up-spec =
@@ -70,6 +73,7 @@ count-up-spec =
     loop-holds
     add-dst
     add-dst-2
+    add-dst-3
     mul-dst
     slice-write-dst
     add-i

@@ -41,7 +41,7 @@ def main():
     for n in o.sizes:
         for shape, per in (("flat", 1), ("trie", 4)):
             for call, records, a, b in cases(n, per, per):
-                if (call in ("merge_pair", "plain merge") and not o.rust) or (call == "check" and o.rust) or (o.only and call != o.only):
+                if (call == "plain merge" and not o.rust) or (call == "check" and o.rust) or (o.only and call != o.only):
                     continue
                 with open(path, "wb") as f:
                     for part in ([CALLS.index(call)], [len(a)], [x % TOP64 for x in a], [len(b)], [x % TOP64 for x in b]):

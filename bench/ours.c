@@ -81,9 +81,7 @@ static uint64_t run(struct work *k)
     case MELD: return rl_meld(k->a.w, k->a.n, k->b.w, k->b.n, k->x, k->xn);
     case WALK: return walk(k->a, &k->walked);
     case SURVEY: return rl_survey(k->a.w, k->a.n, k->b.w, k->b.n, k->x, k->xn, k->z, k->zn);
-#ifdef RL_MERGE_WORDS
     case MERGE: return rl_merge_pair(k->a.w, k->a.n, k->b.w, k->b.n, k->y, k->yn, k->x, k->xn, k->z, k->zn);
-#endif
     default: return 99;
     }
 }

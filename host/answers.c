@@ -1,7 +1,8 @@
 /* Answers cases of standard input, a line each, for oracle/compare.py: every number, every word written, and whether anything else
  * changed. `call word.. | slice | slice`, words in decimal; a line may start with @N, which lends each output N words more than the room
- * asked (or fewer; 3 more where nothing is said), or with @N,U,A, by which an extract's frontier or a merge's scratch has U words more and the
- * answer of an extract, a survey or a merge A (or fewer; 0 and 2 where nothing is said). The answer: the number, and for an accepted call each output after ` | `.
+ * asked (or fewer; 3 more where nothing is said), or with @N,U,A,C,R, by which an extract's frontier or a merge's scratch has U words more, the
+ * answer of an extract, a survey or a merge A, and a whole merge's clean and rest C and R more than the most that can be asked (or fewer; 0, 2, 0
+ * and 0 where nothing is said). The answer: the number, and for an accepted call each output after ` | `.
  * Each lent slice stands between guard words; `changed` in an answer says that a word changed that must not. */
 #include "rafterloop.h"
 #include <inttypes.h>
@@ -9,7 +10,7 @@
 #include <stdlib.h>
 #include <string.h>
 
-enum { GUARD = 4, SLICES = 6 };
+enum { GUARD = 4, SLICES = 7 };
 
 /* A slice between guards, and what it held when it was lent. */
 struct slice {
@@ -21,7 +22,7 @@ struct slice {
 static struct slice lent[SLICES];
 static int count;
 static int changed;
-static long more_upper, more_answer; /* of an extract, a survey and a merge */
+static long more_upper, more_answer, more_clean, more_rest; /* of an extract, a survey and a merge */
 
 static struct slice *lend(size_t len)
 {
@@ -201,17 +202,22 @@ static void survey(char *one, char *two, long more)
     written(reports, RL_REPORT_WORDS * answer->words[0]);
 }
 
-#ifdef RL_MERGE_WORDS
+/* What a merge asks of its scratch. */
+static size_t scratch_room(const struct slice *a, const struct slice *b)
+{
+    size_t items = 0;
+    for (int i = 0; i < 3; i++)
+        items += (a->len > 3 && a->words[i] <= a->len ? a->words[i] : 0) + (b->len > 3 && b->words[i] <= b->len ? b->words[i] : 0);
+    return 3 * items;
+}
+
 /* Scratch is the caller's no more after acceptance or 14; its guards still are. */
 static void merge(char *one, char *two, long more)
 {
     struct slice *a = parse(one), *b = parse(two);
-    size_t items = 0;
-    for (int i = 0; i < 3; i++)
-        items += (a->len > 3 && a->words[i] <= a->len ? a->words[i] : 0) + (b->len > 3 && b->words[i] <= b->len ? b->words[i] : 0);
     struct slice *out = lend_room(size_of(a->words, a->len) + size_of(b->words, b->len) - 4, more);
     struct slice *answer = lend_room(RL_MERGE_WORDS, more_answer);
-    struct slice *scratch = lend_room(3 * items, more_upper);
+    struct slice *scratch = lend_room(scratch_room(a, b), more_upper);
     remember();
     uint64_t number = rl_merge_pair(a->words, a->len, b->words, b->len, scratch->words, scratch->len, out->words, out->len, answer->words,
                                     answer->len);
@@ -225,7 +231,38 @@ static void merge(char *one, char *two, long more)
     written_chunk(out);
     written(answer, RL_MERGE_WORDS);
 }
-#endif
+
+/* Where the filter's or the suffix's output is short, 13, what was written before stays, so only the guards of out and clean are held; of the
+ * other refusals all their words. The rest is written where one input survives. */
+static void whole(char *one, char *two, long more)
+{
+    struct slice *a = parse(one), *b = parse(two);
+    size_t m = size_of(a->words, a->len), n = size_of(b->words, b->len);
+    struct slice *rest = lend_room(m < n ? n : m, more_rest);
+    struct slice *answer = lend_room(RL_MERGE_WORDS, more_answer);
+    struct slice *out = lend_room(m + n - 4, more);
+    struct slice *clean = lend_room(m + n - 4, more_clean);
+    struct slice *scratch = lend_room(scratch_room(a, b), more_upper);
+    remember();
+    uint64_t number = rl_merge_whole(a->words, a->len, b->words, b->len, scratch->words, scratch->len, out->words, out->len, clean->words,
+                                     clean->len, rest->words, rest->len, answer->words, answer->len);
+    printf("%" PRIu64, number);
+    same_from(scratch, number && number != 13 && number != 14 ? 0 : scratch->len);
+    same_from(out, number && number != 13 ? 0 : out->len);
+    same_from(clean, number && number != 13 ? 0 : clean->len);
+    count -= 3;
+    untouched(number, 2);
+    count += 3;
+    if (number)
+        return;
+    written_chunk(out);
+    written_chunk(clean);
+    if (answer->words[0] == RL_NOBODY)
+        written(rest, 0);
+    else
+        written_chunk(rest);
+    written(answer, RL_MERGE_WORDS);
+}
 
 static void fields(int start, char *text, long more)
 {
@@ -287,6 +324,7 @@ static void answer(char *line)
     long more = 3;
     more_upper = 0;
     more_answer = 2;
+    more_clean = more_rest = 0;
     char *p = line + strspn(line, " ");
     if (*p == '@')
         more = strtol(p + 1, &p, 10);
@@ -294,6 +332,10 @@ static void answer(char *line)
         more_upper = strtol(p + 1, &p, 10);
     if (*p == ',')
         more_answer = strtol(p + 1, &p, 10);
+    if (*p == ',')
+        more_clean = strtol(p + 1, &p, 10);
+    if (*p == ',')
+        more_rest = strtol(p + 1, &p, 10);
     p += strspn(p, " ");
     char *rest = p + strcspn(p, " ");
     if (*rest)
@@ -310,10 +352,10 @@ static void answer(char *line)
         extract(rest, parts[1], more);
     else if (!strcmp(p, "survey"))
         survey(parts[1], parts[2], more);
-#ifdef RL_MERGE_WORDS
     else if (!strcmp(p, "merge"))
         merge(parts[1], parts[2], more);
-#endif
+    else if (!strcmp(p, "whole"))
+        whole(parts[1], parts[2], more);
     else if (!strcmp(p, "check") || !strcmp(p, "start"))
         fields(*p == 's', parts[1], more);
     else if (!strcmp(p, "step"))

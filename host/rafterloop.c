@@ -16,17 +16,26 @@ struct updates {
     size_t room;
 };
 
+/* A chunk at the front of its words, or words lent for one. */
+struct chunk {
+    uint64_t *words;
+    size_t len;
+};
+
 static const char *refusal(uint64_t number)
 {
     switch (number) {
     case 1: return "the updates are not four words each";
-    case 2: return "more than 1048576 updates";
+    case 2: return "more than 1048576 updates, or times of two logs";
     case 3: return "the updates are not in order";
     case 4: return "a change is outside -2^40 to 2^40";
     case 5: return "the words are not a chunk";
     case 6: return "the chunk is not settled";
+    case 7: return "the chunk is empty";
     case 11: return "the second chunk does not follow the first";
+    case 12: return "the scratch is too short";
     case 13: return "an output is too short";
+    case 14: return "a sum of two changes is outside 64 bits";
     default: return "an unknown refusal";
     }
 }
@@ -141,65 +150,117 @@ static int read_log(const char *name, struct updates *u)
     return wrong;
 }
 
-/* The chunk of the updates in a buffer of the room that the call asks. Returns 0, or 1 with the refusal printed. */
-static int form_chunk(const char *name, struct updates *u, uint64_t **chunk, size_t *len)
+static struct chunk lend(size_t len)
 {
-    *len = 4 + 7 * (u->len / 4);
-    *chunk = words_or_die(NULL, *len);
-    u->words = words_or_die(u->words, u->len);
-    u->room = u->len;
-    uint64_t number = rl_form_unsorted(u->words, u->len, *chunk, *len);
+    struct chunk c = {words_or_die(NULL, len), len};
+    return c;
+}
+
+/* The words that a chunk takes, by its own table. */
+static size_t size_of(const struct chunk *c) { return 4 + 2 * c->words[0] + 2 * c->words[1] + 2 * c->words[2] + c->words[3]; }
+
+/* 0, or 1 with the refusal printed. */
+static int refused(const char *name, uint64_t number)
+{
     if (number)
         fprintf(stderr, "%s: refused, %" PRIu64 ": %s\n", name, number, refusal(number));
     return number != 0;
 }
 
-static int print_chunk(const uint64_t *chunk, size_t len)
+/* The chunk of the updates in a buffer of the room that the call asks. Returns 0, or 1 with the refusal printed. */
+static int form_chunk(const char *name, struct updates *u, struct chunk *c)
+{
+    *c = lend(4 + 7 * (u->len / 4));
+    u->words = words_or_die(u->words, u->len);
+    u->room = u->len;
+    return refused(name, rl_form_unsorted(u->words, u->len, c->words, c->len));
+}
+
+/* What two chunks say together, in place of the first: what is merged of both, without what cancelled, and behind it what is left of the one that
+ * goes on. Every buffer has the room that its call asks. Returns 0, or 1 with the refusal printed. */
+static int join(const char *name, struct chunk *a, const struct chunk *b)
+{
+    size_t m = size_of(a), n = size_of(b), items = 0;
+    for (int i = 0; i < 3; i++)
+        items += a->words[i] + b->words[i];
+    struct chunk scratch = lend(3 * items), out = lend(m + n - 4), clean = lend(m + n - 4), rest = lend(m < n ? n : m);
+    uint64_t answer[RL_MERGE_WORDS];
+    uint64_t number = rl_merge_whole(a->words, a->len, b->words, b->len, scratch.words, scratch.len, out.words, out.len, clean.words,
+                                     clean.len, rest.words, rest.len, answer, RL_MERGE_WORDS);
+    free(scratch.words);
+    free(out.words);
+    if (!number && answer[0] != RL_NOBODY) {
+        struct chunk both = lend(size_of(&clean) + size_of(&rest) - 4);
+        number = rl_meld(clean.words, clean.len, rest.words, rest.len, both.words, both.len);
+        free(clean.words);
+        clean = both;
+    }
+    free(rest.words);
+    free(a->words);
+    *a = clean;
+    return refused(name, number);
+}
+
+/* One chunk of two, in the first; the second is done with. There is nothing to merge where one is empty. */
+static int fold_two(const char *name, struct chunk *a, struct chunk *b)
+{
+    struct chunk first = *a;
+    int wrong = 0;
+    if (first.words[2] == 0) {
+        *a = *b;
+        *b = first;
+    } else if (b->words[2] != 0)
+        wrong = join(name, a, b);
+    free(b->words);
+    b->words = NULL;
+    return wrong;
+}
+
+static int print_chunk(const struct chunk *c)
 {
     uint64_t w[RL_WALKER_WORDS], r[RL_RECORD_WORDS], number;
-    if ((number = rl_walk_start(chunk, len, w, RL_WALKER_WORDS)) == 0) {
+    if ((number = rl_walk_start(c->words, c->len, w, RL_WALKER_WORDS)) == 0) {
         printf("%20s %20s %10s %10s %15s\n", "truck", "fault", "ignition", "tick", "change");
-        while ((number = rl_walk_step(chunk, len, w, RL_WALKER_WORDS, r, RL_RECORD_WORDS)) == 0)
+        while ((number = rl_walk_step(c->words, c->len, w, RL_WALKER_WORDS, r, RL_RECORD_WORDS)) == 0)
             printf("%20" PRIu64 " %20" PRIu64 " %10" PRIu64 " %10" PRIu64 " %+15" PRId64 "\n", r[0], r[1], r[2] >> 32, r[2] & UINT32_MAX,
                    (int64_t)r[3]);
     }
-    if (number == RL_DONE)
-        return 0;
-    fprintf(stderr, "rafterloop: refused, %" PRIu64 ": %s\n", number, refusal(number));
-    return 1;
+    return number == RL_DONE ? 0 : refused("rafterloop", number);
 }
 
-/* All logs are formed in one call. Forming each and merging the chunks says the same: no call loses a change or makes one up. */
+/* Each log is formed by itself; then neighbours are merged, and neighbours of those, until one is left. */
 static int fold(int count, char **names)
 {
-    struct updates u = {0};
-    uint64_t *chunk = NULL;
-    size_t len;
-    int wrong = 0;
-    for (int i = 0; i < count; i++)
-        wrong |= read_log(names[i], &u);
+    size_t logs = (size_t)count;
+    struct chunk *chunks = calloc(logs, sizeof *chunks);
+    int wrong = !chunks;
+    if (!chunks)
+        fprintf(stderr, "rafterloop: no memory for %zu logs\n", logs);
+    for (size_t i = 0; chunks && i < logs; i++) {
+        struct updates u = {0};
+        wrong |= read_log(names[i], &u) || form_chunk(names[i], &u, &chunks[i]);
+        free(u.words);
+    }
+    for (size_t step = 1; !wrong && step < logs; step *= 2)
+        for (size_t i = 0; !wrong && i + step < logs; i += 2 * step)
+            wrong = fold_two("all logs", &chunks[i], &chunks[i + step]);
     if (!wrong)
-        wrong = form_chunk(count == 1 ? names[0] : "all logs", &u, &chunk, &len) || print_chunk(chunk, len);
-    free(chunk);
-    free(u.words);
+        wrong = print_chunk(&chunks[0]);
+    for (size_t i = 0; chunks && i < logs; i++)
+        free(chunks[i].words);
+    free(chunks);
     return wrong;
 }
 
 static int check_one(const char *name)
 {
     struct updates u = {0};
-    uint64_t *chunk = NULL, a[RL_CHECK_WORDS];
-    size_t len;
-    int wrong = read_log(name, &u) || form_chunk(name, &u, &chunk, &len);
-    if (!wrong) {
-        uint64_t number = rl_check(chunk, len, a, RL_CHECK_WORDS);
-        if (number)
-            fprintf(stderr, "%s: refused, %" PRIu64 ": %s\n", name, number, refusal(number));
-        else
-            printf("%s: good, %zu updates, %" PRIu64 " trucks, %" PRIu64 " records\n", name, u.len / 4, a[1], a[4]);
-        wrong = number != 0;
-    }
-    free(chunk);
+    struct chunk c = {0};
+    uint64_t a[RL_CHECK_WORDS];
+    int wrong = read_log(name, &u) || form_chunk(name, &u, &c) || refused(name, rl_check(c.words, c.len, a, RL_CHECK_WORDS));
+    if (!wrong)
+        printf("%s: good, %zu updates, %" PRIu64 " trucks, %" PRIu64 " records\n", name, u.len / 4, a[1], a[4]);
+    free(c.words);
     free(u.words);
     return wrong;
 }

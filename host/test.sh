@@ -27,6 +27,21 @@ expect() {
     fi
 }
 
+# folded WANT LOG..: the whole output of a fold, its header left out, blanks as one and none in front
+folded() {
+    want=$1
+    shift
+    $run "$program" fold "$@" > "$dir/out" 2>&1
+    got=$?
+    tests=$((tests + 1))
+    printf '%s' "$want" > "$dir/want"
+    if [ "$got" != 0 ] || ! tail -n +2 "$dir/out" | tr -s ' ' | sed 's/^ //' | cmp -s - "$dir/want"; then
+        failed=$((failed + 1))
+        echo "FAILED: rafterloop fold $*: status $got, or another output:"
+        head -20 "$dir/out"
+    fi
+}
+
 # bad LINE WORDS: a log whose second line is bad
 bad() {
     printf '1 1 1 1 1\n%s\n' "$1" > "$dir/bad.log"
@@ -57,6 +72,47 @@ printf '5 6 7 8 -9' > "$dir/minus.log"
 expect 0 '^ 5 6 7 8 -9$' fold "$dir/minus.log"
 expect 0 '^ truck' fold "$dir/comment.log" "$dir/minus.log"
 if grep -q 5 "$dir/out"; then failed=$((failed + 1)); echo "FAILED: two logs that cancel"; fi
+
+# two logs that overlap: a shared change is added, one cancels, the longer log's end stands behind; in either order
+printf '7 4 2 0 +1\n9 3 1 5 +2\n7 3 1 5 +1\n7 3 1 9 -1\n' > "$dir/a.log"
+printf '7 4 1 0 +1\n7 3 1 9 +1\n7 3 1 5 +4\n' > "$dir/b.log"
+ab='7 3 1 5 +5
+7 4 1 0 +1
+7 4 2 0 +1
+9 3 1 5 +2
+'
+folded "$ab" "$dir/a.log" "$dir/b.log"
+folded "$ab" "$dir/b.log" "$dir/a.log"
+# with an empty one first, last and between
+folded "$ab" "$dir/empty.log" "$dir/a.log" "$dir/b.log"
+folded "$ab" "$dir/a.log" "$dir/empty.log" "$dir/b.log" "$dir/empty.log"
+folded '' "$dir/empty.log" "$dir/empty.log"
+# three logs: the third takes back a sum of the other two, and a change of its own stands before all; and five
+printf '1 1 1 1 -3\n7 3 1 5 -5\n9 3 1 5 -1\n' > "$dir/c.log"
+abc='1 1 1 1 -3
+7 4 1 0 +1
+7 4 2 0 +1
+9 3 1 5 +1
+'
+folded "$abc" "$dir/a.log" "$dir/b.log" "$dir/c.log"
+folded "$abc" "$dir/c.log" "$dir/a.log" "$dir/b.log"
+folded "$abc" "$dir/b.log" "$dir/c.log" "$dir/a.log"
+folded '1 1 1 1 -6
+7 3 1 5 -4
+7 3 1 9 -1
+7 4 1 0 +1
+7 4 2 0 +2
+9 3 1 5 +2
+' "$dir/c.log" "$dir/a.log" "$dir/b.log" "$dir/a.log" "$dir/c.log"
+# logs that cancel entirely: two, and three together
+sed 's/+/x/; s/-/+/; s/x/-/' "$dir/a.log" > "$dir/back.log"
+folded '' "$dir/a.log" "$dir/back.log"
+folded "$ab" "$dir/a.log" "$dir/back.log" "$dir/a.log" "$dir/b.log"
+printf '7 4 1 0 -1\n7 3 1 9 -1\n7 3 1 5 -4\n1 1 1 1 +3\n7 3 1 5 +5\n9 3 1 5 -1\n7 4 2 0 -1\n7 3 1 5 -1\n7 3 1 9 +1\n' > "$dir/rest.log"
+folded '' "$dir/a.log" "$dir/b.log" "$dir/c.log" "$dir/rest.log"
+# a refused log among good ones is named, and so is a bad line of another
+printf '1 1 1 1 1099511627777\n' > "$dir/over.log"
+expect 1 'over.log: refused, 4: ' fold "$dir/a.log" "$dir/over.log" "$dir/b.log"
 printf '18446744073709551615 18446744073709551615 4294967295 4294967295 1099511627776\r\n' > "$dir/most.log"
 expect 0 '^ *18446744073709551615 18446744073709551615 4294967295 4294967295 +1099511627776$' fold "$dir/most.log"
 printf '1 1 1 1 1099511627777\n' > "$dir/over.log"
@@ -82,6 +138,12 @@ awk 'BEGIN { for (i = 0; i < 1048576; i++) print i % 1000, 1, 1, 1, 1 }' > "$dir
 expect 0 '1048576 updates, 1000 trucks, 1000 records' check "$dir/limit.log"
 echo '1 1 1 1 1' >> "$dir/limit.log"
 expect 1 'limit.log: refused, 2: ' check "$dir/limit.log"
+# two logs of as many times as are taken, and one more in the second: refused with 2
+awk 'BEGIN { for (i = 0; i < 524288; i++) print 2 * i, 1, 1, 1, 1 }' > "$dir/even.log"
+awk 'BEGIN { for (i = 0; i < 524288; i++) print 2 * i + 1, 1, 1, 1, 1 }' > "$dir/odd.log"
+expect 0 '^ 1048575 1 1 1 +1$' fold "$dir/even.log" "$dir/odd.log"
+echo '0 1 1 2 1' >> "$dir/odd.log"
+expect 1 'all logs: refused, 2: ' fold "$dir/even.log" "$dir/odd.log"
 # a change out of range, as the last of a million
 awk 'BEGIN { for (i = 0; i < 999999; i++) print i % 1000, 1, 1, 1, 1; print "1 1 1 1 1099511627777" }' > "$dir/last.log"
 expect 1 'last.log: refused, 4: ' check "$dir/last.log"
@@ -119,6 +181,38 @@ answer 13 "@0,0,-1 survey | $a | $b"
 answer 5 "survey | 1 | $b"
 answer 6 "survey | $gap | $b"
 answer 7 "survey | $a | 0 0 0 0"
+
+# A merged with B up to (7, 4, (1, 0)): (7, 3, (1, 9)) cancels, and A is left from (7, 4, (2, 0)) on
+most='1 1 1 1 7 1 3 1 4294967301 1 9223372036854775807'
+answer '0 | 1 2 3 2 7 2 3 4 2 3 4294967301 4294967305 4294967296 1 1 2 1 1 | 1 0 1 2' "@0,0,0 merge | $a | $b"
+answer '0 | 1 2 3 2 7 2 3 4 2 3 4294967301 4294967305 4294967296 1 1 2 1 1 | 2 0 1 2' "merge | $b | $a"
+answer '0 | 1 2 2 2 7 2 3 4 1 2 4294967305 4294967296 1 2 2 2 | 0 0 0 0' "merge | $b | $b"
+answer 13 "@0,0,-1 merge | 1 | 1"
+answer 5 "merge | 1 | $gap"
+answer 6 "merge | $gap | 1"
+answer 7 "merge | 0 0 0 0 | 1"
+answer 5 "merge | $a | 1"
+answer 6 "merge | $a | $gap"
+answer 7 "merge | $a | 0 0 0 0"
+answer 12 "@-1,-1 merge | $a | $b"
+answer 13 "@-1 merge | $a | $b"
+answer 14 "merge | $most | $most"
+answer '0 | 1 1 1 1 7 1 3 1 4294967301 1 9223372036854775807 | 1 1 1 1' "merge | 2 2 2 2 7 8 1 2 3 3 1 2 4294967301 1 1 2 9223372036854775806 5 | 1 1 1 1 7 1 3 1 4294967301 1 1"
+
+# the whole merge: the cancelled time is gone from the second chunk, the third is what is left of A
+ab='1 2 3 2 7 2 3 4 2 3 4294967301 4294967305 4294967296 1 1 2 1 1'
+clean='1 2 2 2 7 2 3 4 1 2 4294967301 4294967296 1 2 1 1'
+rest='2 2 2 2 7 9 1 2 4 3 1 2 8589934592 4294967301 1 2 1 2'
+answer "0 | $ab | $clean | $rest | 1 0 1 2" "@0,0,0 whole | $a | $b"
+answer "0 | $ab | $clean | $rest | 2 0 1 2" "@0,0,0,-20,0 whole | $b | $a"
+answer '0 | 1 2 2 0 7 2 3 4 1 2 4294967305 4294967296 0 0 | 0 0 0 0 | | 0 0 0 0' "@0,0,0,-2,-16 whole | $b | 1 2 2 2 7 2 3 4 1 2 4294967305 4294967296 1 2 18446744073709551615 18446744073709551615"
+answer 13 "@0,0,-1 whole | 1 | 1"
+answer 7 "whole | $a | 0 0 0 0"
+answer 12 "@0,-1 whole | $a | $b"
+answer 13 "@-1 whole | $a | $b"
+answer 13 "@0,0,0,-21,0 whole | $a | $b"
+answer 13 "@0,0,0,0,-1 whole | $a | $b"
+answer 14 "whole | $most | $most"
 
 echo "host/test.sh: $tests runs, $failed failed"
 [ "$failed" = 0 ]

@@ -139,8 +139,27 @@ def merge_number(a, b, more):
     first = dict(records(a))
     return 14 if any(not -(1 << 63) <= d + first[p] < 1 << 63 for p, d in records(b) if p in first) else 0
 
+def joined(a, b):
+    """A merge's rows, what it leaves of the survivor, and which that is."""
+    x, y = dict(records(a)), dict(records(b))
+    last = min(max(x), max(y))
+    rows = [p + (x.get(p, 0) + y.get(p, 0),) for p in sorted(set(x) | set(y)) if p <= last]
+    left = x if max(x) > last else y if max(y) > last else {}
+    return rows, [p + (d,) for p, d in sorted(left.items()) if p > last], a if left is x else b if left is y else None
+
+def whole_number(a, b, more):
+    """A merge's number; then 13 where clean or rest is short, each lent so many words more than the most that can be asked."""
+    number = merge_number(a, b, more[:3])
+    if number:
+        return number
+    rows, _, left = joined(a, b)
+    clean, rest = size(a) + size(b) - 4 + more[3], max(size(a), size(b)) + more[4]
+    return 13 if clean < size(chunk_of(rows)) or (left and rest < size(left)) else 0
+
 def expected(call, head, parts, more):
     """The number that document 01 gives."""
+    if call == "whole":
+        return whole_number(parts[0], parts[1], more)
     if call == "merge":
         return merge_number(parts[0], parts[1], more)
     if call == "extract":
@@ -286,21 +305,40 @@ def melds():
         for cut in range(len(rows) + 1):
             yield ("meld", [], [chunk_of(rows[:cut]), chunk_of(rows[cut:])], 0)
 
+def fitting(x, y):
+    """The second list with a small change wherever a sum would leave 64 bits."""
+    first = {r[:3]: r[3] for r in x}
+    return [r if -(1 << 63) <= r[3] + first.get(r[:3], 0) < 1 << 63 else r[:3] + (-1 if r[3] > 0 else 1,) for r in y]
+
 def merges(rng, count):
-    """All pairs of sets of eight positions, shared ones cancelling at every other place and added at the others, and the reverse; then random
-    ones, with sums near the ends of 64 bits, at sizes around powers of two."""
-    sets = list(subsets(PLACES))
-    for odd in (0, 1):
-        for x in sets:
-            for y in sets:
-                yield ("merge", [], [chunk_of(x), chunk_of([r[:3] + (-r[3] if PLACES.index(r[:3]) % 2 == odd else r[3],) for r in y])], EXACT)
+    """All pairs over eight positions, each in neither, in one, or in both, where the sum is 0 or not, with the changes 1, -1, 2, -2; all pairs
+    of chunks over three positions with each of those changes; then random ones, with sums near the ends of 64 bits, at sizes around powers
+    of two."""
+    turn = (1, -1, 2, -2)
+    for picks in itertools.product(range(5), repeat=8):
+        x = [p + (turn[i % 4],) for i, (p, s) in enumerate(zip(PLACES, picks)) if s in (1, 3, 4)]
+        y = [p + (-turn[i % 4] if s == 4 else turn[(i + 2) % 4],) for i, (p, s) in enumerate(zip(PLACES, picks)) if s > 1]
+        yield ("merge", [], [chunk_of(x), chunk_of(y)], EXACT)
+    for places in ([PLACES[i] for i in at] for at in ((0, 1, 2), (0, 2, 4), (1, 3, 5), (2, 5, 6))):
+        every = [chunk_of([p + (d,) for p, d in zip(places, picks) if d]) for picks in itertools.product((0,) + turn, repeat=3)]
+        for a in every:
+            for b in every:
+                yield ("merge", [], [a, b], EXACT)
+                yield ("whole", [], [a, b], EXACT + (0, 0))
     for n in SIZES + [65535, 65536]:
         for flat in (True, False):
             x, y = rows_of(rng, n, flat), rows_of(rng, n, flat)
             y = sorted({r[:3]: r for r in y + [r[:3] + (-r[3],) for r in x if rng.random() < 0.3 and signed(r[3] % TOP64) != -(1 << 63)]}.values())
+            yield ("merge", [], [chunk_of(x), chunk_of(y)], EXACT)
+            y = fitting(x, y)
             for few in (y, y[::max(1, n // 64)]):
                 yield ("merge", [], [chunk_of(x), chunk_of(few)], EXACT)
                 yield ("merge", [], [chunk_of(few), chunk_of(x)], EXACT)
+                yield ("whole", [], [chunk_of(x), chunk_of(few)], EXACT + (0, 0))
+    for n in (LIMIT, LIMIT + 1):
+        rows = [(i // 16, i // 4 % 4, i % 4, 1) for i in range(n)]
+        yield ("merge", [], [chunk_of(rows[::2]), chunk_of(rows[1::2])], EXACT)
+        yield ("merge", [], [chunk_of(rows[:n // 2]), chunk_of(rows[n // 2:])], EXACT)
     for _ in range(count):
         n = rng.randrange(1, 24)
         x, y = rows_of(rng, n, False, rng.choice((0, 0, 0.1))), rows_of(rng, rng.randrange(1, 24), False)
@@ -309,6 +347,9 @@ def merges(rng, count):
         yield ("merge", [], [other, w], lent(rng))
         yield ("merge", [], [damaged(rng, w), other], lent(rng))
         yield ("merge", [], [other, damaged(rng, w)], lent(rng))
+        yield ("whole", [], [w, chunk_of(fitting(x, y))], lent(rng) + (rng.choice((0, 2, -1)), rng.choice((0, 2, -1))))
+        yield ("whole", [], [other, w], EXACT + (-rng.randrange(60), -rng.randrange(60)))
+        yield ("whole", [], [damaged(rng, w), other], lent(rng) + (0, 0))
 
 def limits():
     """The most updates and times, and one more."""
@@ -431,6 +472,8 @@ def line_of(case, ours):
     call, head, parts, more = case
     if call == "extract" and not ours:
         head = head[1:1 + head[0]]
+    if call == "whole" and not ours:
+        call = "merge"
     text = " ".join([call] + [str(x) for x in head])
     if ours and more != 3:
         text = "@" + (",".join(map(str, more)) if type(more) is tuple else str(more)) + " " + text
@@ -447,6 +490,7 @@ def words(text):
     return text.split()
 
 KNOWN = "known: the walker's start"
+MERGES = ("merge", "whole")
 
 def compare(case, mine, theirs):
     """None where they agree; else what differs."""
@@ -481,7 +525,13 @@ def compare(case, mine, theirs):
         good = mine[1] == ["0"] * 4 + [str(b[i][0]) for i in (1, 3, 5)] and theirs == "0 0 0 0 0 0 0"
         return KNOWN if good else "the words differ"
     theirs = [words(f) for f in theirs.split("|")]
-    if call == "merge":
+    if call == "whole":
+        rows, left, _ = joined(*parts)
+        made = [chunk_of([r for r in rows if r[3]]), chunk_of(left) if left else []]
+        if mine[2:4] != [[str(x) for x in w] for w in made]:
+            return "the filtered words or the rest differ"
+        mine[2:4] = []
+    if call in MERGES:
         survivor = theirs[1] + ["0"] * 3
         survivor = [str(["none", "first", "second"].index(survivor[0]))] + survivor[1:4]
         return None if mine[1:] == [theirs[0], survivor] else "the words differ"
@@ -517,22 +567,24 @@ def main():
     if not os.path.exists(oracle):
         subprocess.run(["sh", os.path.join(HERE, "build.sh"), os.path.abspath(o.docs)], check=True)
     answers = shlex.split(o.run) + [os.path.join(TOP, "build", "answers")]
-    every = list(cases(random.Random(o.seed), o.random))
-    if run(answers, ["merge | |"]) != ["unknown"]:
-        every += merges(random.Random(o.seed), o.random)
-    every = [c for c in every if not o.only or c[0] == o.only]
-    mine = run(answers, [line_of(c, True) for c in every])
-    asked = [i for i, c in enumerate(every) if c[0] != "check" and (fits(c[2][0]) if c[0] == "step" else expected(*c) == 0)]
-    theirs = dict(zip(asked, run([oracle], [line_of(every[i], False) for i in asked])))
+    others = () if o.only in MERGES else cases(random.Random(o.seed), o.random)
+    every = itertools.chain(others, merges(random.Random(o.seed), o.random))
+    every = (c for c in every if not o.only or c[0] == o.only)
     total, numbers, known, differs = collections.Counter(), collections.defaultdict(collections.Counter), collections.Counter(), collections.defaultdict(list)
-    for i, case in enumerate(every):
-        total[case[0]] += 1
-        numbers[case[0]][int(mine[i].split("|")[0].split()[0])] += 1
-        wrong = compare(case, mine[i], theirs.get(i, ""))
-        if wrong == KNOWN:
-            known[case[0]] += 1
-        elif wrong:
-            differs[case[0]].append((wrong, line_of(case, True), mine[i], theirs.get(i, "not asked")))
+    told = 0
+    while part := list(itertools.islice(every, 50000)):
+        mine = run(answers, [line_of(c, True) for c in part])
+        asked = [i for i, c in enumerate(part) if c[0] != "check" and (fits(c[2][0]) if c[0] == "step" else expected(*c) == 0)]
+        theirs = dict(zip(asked, run([oracle], [line_of(part[i], False) for i in asked])))
+        told += len(asked)
+        for i, case in enumerate(part):
+            total[case[0]] += 1
+            numbers[case[0]][int(mine[i].split("|")[0].split()[0])] += 1
+            wrong = compare(case, mine[i], theirs.get(i, ""))
+            if wrong == KNOWN:
+                known[case[0]] += 1
+            elif wrong:
+                differs[case[0]].append((wrong, line_of(case, True), mine[i], theirs.get(i, "not asked")))
     for call in sorted(total):
         accepted = numbers[call].pop(0, 0)
         print("%-14s %7d cases, %7d accepted, %7d refused or done (%s), %5d differ as known, %5d differ otherwise"
@@ -541,7 +593,7 @@ def main():
         for wrong, line, a, b in sorted(differs[call], key=lambda d: len(d[1]))[:o.show]:
             print("  %s: %s\n    ours %s\n    Rust %s" % (wrong, line[:300], a[:300], b[:300]))
     print("seed %d: %d cases, %d asked of the Rust, %d differ as known, %d differ otherwise"
-          % (o.seed, len(every), len(asked), sum(known.values()), sum(map(len, differs.values()))))
+          % (o.seed, sum(total.values()), told, sum(known.values()), sum(map(len, differs.values()))))
     sys.exit(1 if any(differs.values()) else 0)
 
 if __name__ == "__main__":

@@ -13,9 +13,10 @@ from compare import HERE, HALF, TOP64, TOP, chunk_of, cursor_at, in_order, least
 
 FILE = os.path.join(TOP, "crates", "yard", "src", "recorded.rt")
 STDOUT = os.path.join(TOP, "crates", "yard", "stdout")
-CALLS = ["form", "form_unsorted", "filter", "split", "extract", "suffix", "meld", "walk", "survey"]
+CALLS = ["form", "form_unsorted", "filter", "split", "extract", "suffix", "meld", "walk", "survey", "merge"]
 
 A = [(7, 3, time(1, 5), 1), (7, 3, time(1, 9), -1), (7, 4, time(2, 0), 1), (9, 3, time(1, 5), 2)]
+B = [(7, 3, time(1, 9), 1), (7, 4, time(1, 0), 1)]
 MERGED = [(7, 3, time(1, 5), 1), (7, 3, time(1, 9), 0), (7, 4, time(1, 0), 1)]
 EMPTY = [0, 0, 0, 0]
 
@@ -35,11 +36,11 @@ def cases():
     some = [drawn(rng, n, keys) for n, keys in ((1, 1), (4, 2), (6, 2), (8, 2), (5, 90), (7, 90))]
     gaps = [[r[:3] + (0 if (i + g) % 3 == 0 else r[3],) for i, r in enumerate(rows)] for g, rows in enumerate(some)]
     near = flat([(TOP64 - 1, TOP64 - 1, TOP64 - 1, 1 << 40), (TOP64 - 1, TOP64 - 1, TOP64 - 1, -(1 << 40) + 1)])
-    for us in ([], flat(A), flat(A[:1] + [(7, 3, time(1, 5), -1)]), near, in_order(updates_of(rng, 8, 2)), in_order(updates_of(rng, 8, 1))):
+    for us in ([], flat(A), flat(A[:1] + [(7, 3, time(1, 5), -1)]), near, in_order(updates_of(rng, 8, 2))):
         yield ("form", us, [])
-    for us in ([], flat(A[::-1]), flat(A + [(7, 3, time(1, 5), -1)]), near, updates_of(rng, 8, 2), updates_of(rng, 8, 1)):
+    for us in ([], flat(A[::-1]), flat(A + [(7, 3, time(1, 5), -1)]), near, updates_of(rng, 8, 2)):
         yield ("form_unsorted", us, [])
-    for rows in [[], MERGED, [r[:3] + (0,) for r in A]] + gaps[2:]:
+    for rows in [[], MERGED, [r[:3] + (0,) for r in A]] + gaps[2:5]:
         yield ("filter", chunk_of(rows), [])
     for w, n in ((a, 0), (a, 2), (a, 4), (a, TOP64 - 1), (chunk_of(some[3]), 3), (chunk_of(some[5]), 6), (EMPTY, 0)):
         yield ("split", w, [n])
@@ -52,15 +53,17 @@ def cases():
         yield ("meld", chunk_of(rows[:cut]), chunk_of(rows[cut:]))
     for rows in (A, MERGED, gaps[3], [r[:3] + (0,) for r in A]):
         yield ("walk", chunk_of(rows), [])
-    for x, y in ((A, A[:2]), (A[3:], A), (some[3], some[2]), (some[4], some[5]), (some[5], [some[5][1], some[5][6]])):
+    for x, y in ((A, A[:2]), (A[3:], A), (some[3], some[2]), (some[4], some[5])):
         yield ("survey", chunk_of(x), chunk_of(y))
+    for x, y in ((A, B), (B, A), (A, [r[:3] + (-r[3],) for r in A]), (some[1], some[2][:4])):
+        yield ("merge", chunk_of(x), chunk_of(y))
 
 def asked(case):
     call, a, b = case
     w = lambda l: " ".join(map(str, l))
     if call in ("form", "form_unsorted"):
         return call + " " + w(a)
-    if call in ("meld", "survey"):
+    if call in ("meld", "survey", "merge"):
         return "%s | %s | %s" % (call, w(a), w(b))
     return "%s %s | %s" % (call, w(b), w(a))
 
@@ -69,9 +72,12 @@ def shown(x):
 
 def line_of(case, answer):
     call, a, b = case
+    for number, name in enumerate(("none", "first", "second")):
+        answer = answer.replace(name, "0 0 0 0" if name == "none" else str(number))
     fields = [a, b] + [[int(x) for x in f.split()] for f in answer.split("|")]
     fields += [[]] * (5 - len(fields))
     assert all(len(f) <= 64 for f in fields) and (call != "form" or 4 + 7 * len(a) // 4 <= 64), case
+    assert call != "merge" or len(a) + len(b) - 4 <= 64, case
     return " ".join((call + " " + str(CALLS.index(call)) + "".join(" | " + " ".join(map(shown, f)) for f in fields)).split())
 
 def main():

@@ -3,3 +3,4 @@ pub mod Laid
 pub mod Stepping
 pub mod Parting
 pub mod Surveying
+pub mod Joining

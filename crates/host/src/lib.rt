@@ -1,5 +1,5 @@
 ghost use mathlib.Core.Path.{_≡_};
-ghost use mathlib.Core.List.{_∷_, _++_};
+ghost use mathlib.Core.List.{[], _∷_, _++_};
 ghost use Prim.Native.Nat.{_+_, _*_, _≤_};
 ghost use lib.ListN.{length, take, drop};
 ghost use Rattle.chunk.specs.Words.{over};
@@ -13,7 +13,8 @@ ghost use Rattle.merge.specs.Merge.{suffixNumber, suffixOut};
 ghost use Rattle.host.specs.Answers.{checkNumber, checkAnswer, walkerWords, startNumber, startAnswer, Answers};
 ghost use Rattle.host.specs.Extracts.{frontierIn, extractWords, ExtractAnswers};
 ghost use Rattle.host.specs.Listing.{reportWords, SurveyAnswers};
-ghost use Rattle.host.specs.Steps.{walkerIn, recordWords, StepAnswers};
+ghost use Rattle.host.specs.Merges.{survivorWords, Said, PairAnswers, AllAnswers};
+ghost use Rattle.host.specs.Steps.{walkerIn, StepAnswers};
 
 // The words of a check's answer, of a walker and of a record.
 const CHECK_WORDS: usize = 5;
@@ -31,6 +32,9 @@ const EXTRACT_WORDS: usize = 130;
 const REPORT_WORDS: usize = 3;
 
 const SURVEY_WORDS: usize = 1;
+
+// The words of a merge's answer: a survivor and its cursor.
+const MERGE_WORDS: usize = 4;
 
 // What a step returns where no record is left.
 const DONE: u64 = 100;
@@ -126,15 +130,15 @@ fn write_walker(out: &mut [u64], w: walk::Walker)
     out[6] = w.d_end;
 }
 
-// A record's words at the front of a slice.
-fn write_record(out: &mut [u64], found: walk::Record)
+// Four words at the front of a slice.
+fn write_four(out: &mut [u64], first: u64, second: u64, third: u64, fourth: u64)
     requires { ⌜ 4 ≤ length (now out) ⌝ }
-    ensures { λ _. ⌜ now (out .exit) ≡ over (recordWords found) (now (out .entry)) ⌝ }
+    ensures { λ _. ⌜ now (out .exit) ≡ over (first ∷ second ∷ third ∷ fourth ∷ []) (now (out .entry)) ⌝ }
 {
-    out[0] = found.key;
-    out[1] = found.val;
-    out[2] = found.time;
-    out[3] = found.diff;
+    out[0] = first;
+    out[1] = second;
+    out[2] = third;
+    out[3] = fourth;
 }
 
 // The walker that seven words say.
@@ -187,7 +191,7 @@ pub extern "C" fn rl_walk_step(words: &[u64], walker: &mut [u64], found: &mut [u
     match went {
         walk::Stepped::Gave(record, past) => {
             write_walker(walker, past);
-            write_record(found, record);
+            write_four(found, record.key, record.val, record.time, record.diff);
             0
         }
         walk::Stepped::Done => DONE,
@@ -305,4 +309,68 @@ pub extern "C" fn rl_survey(a: &[u64], b: &[u64], lent: &mut [u64], answer: &mut
     write_reports(a, b, count, lent);
     answer[0] = count as u64;
     0
+}
+
+// A survivor's words at the front of a slice: 0 nobody, 1 the first, 2 the second, and its cursor.
+fn write_survivor(out: &mut [u64], survivor: merge::Survivor)
+    requires { ⌜ 4 ≤ length (now out) ⌝ }
+    ensures { λ _. ⌜ now (out .exit) ≡ over (survivorWords survivor) (now (out .entry)) ⌝ }
+{
+    match survivor {
+        merge::Survivor::Nobody => write_four(out, 0, 0, 0, 0),
+        merge::Survivor::First(k, v, t) => write_four(out, 1, k as u64, v as u64, t as u64),
+        merge::Survivor::Second(k, v, t) => write_four(out, 2, k as u64, v as u64, t as u64),
+    }
+}
+
+// A merge's number, and its survivor's words where that is 0.
+fn say_joined(joined: merge::Joined, answer: &mut [u64]) -> u64
+    requires { ⌜ 4 ≤ length (now answer) ⌝ }
+    ensures { λ r. ⌜ Said joined (now (answer .entry)) r (now (answer .exit)) ⌝ }
+{
+    let number = joined.number;
+    if number != 0 {
+        return number;
+    }
+    let survivor = joined.survivor;
+    write_survivor(answer, survivor);
+    0
+}
+
+// Two chunks merged up to the smaller of their last positions; the answer is the survivor and its cursor.
+#[no_mangle]
+pub extern "C" fn rl_merge_pair(
+    words0: &[u64],
+    words1: &[u64],
+    scratch: &mut [u64],
+    out: &mut [u64],
+    answer: &mut [u64],
+) -> u64
+    ensures { λ r. ⌜ PairAnswers (now (words0 .entry)) (now (words1 .entry)) (now (scratch .entry)) (now (out .entry)) (now (answer .entry)) r (now (answer .exit)) (now (out .exit)) (now (scratch .exit)) ⌝ }
+{
+    if answer.len() < MERGE_WORDS {
+        return 13;
+    }
+    let joined = merge::merge_pair(words0, words1, scratch, out);
+    say_joined(joined, answer)
+}
+
+// The whole merge: into `out`, that without the times that have no diff into `clean`, and the survivor's suffix into `rest`.
+#[no_mangle]
+pub extern "C" fn rl_merge_whole(
+    words0: &[u64],
+    words1: &[u64],
+    scratch: &mut [u64],
+    out: &mut [u64],
+    clean: &mut [u64],
+    rest: &mut [u64],
+    answer: &mut [u64],
+) -> u64
+    ensures { λ r. ⌜ AllAnswers (now (words0 .entry)) (now (words1 .entry)) (now (scratch .entry)) (now (out .entry)) (now (clean .entry)) (now (rest .entry)) (now (answer .entry)) r (now (answer .exit)) (now (out .exit)) (now (clean .exit)) (now (rest .exit)) (now (scratch .exit)) ⌝ }
+{
+    if answer.len() < MERGE_WORDS {
+        return 13;
+    }
+    let joined = whole::merge_whole(words0, words1, scratch, out, clean, rest);
+    say_joined(joined, answer)
 }

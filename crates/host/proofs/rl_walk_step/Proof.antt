@@ -23,8 +23,8 @@ enum-known-went c = search needs
 write-walker-requires : tie.Need-write-walker-requires
 write-walker-requires c κs = search needs
 
-write-record-requires : tie.Need-write-record-requires
-write-record-requires c κs = search needs
+write-four-requires : tie.Need-write-four-requires
+write-four-requires c κs = search needs
 
 enum-told : tie.Need-enum-told
 enum-told c = search needs
@@ -42,7 +42,7 @@ returns-3 : tie.Need-returns-3
 returns-3 c =
     let at = c .before .before .before .before .before .before .before .before .before .before .before .before .read-walker in
     let k = c .before .before .before .before .before .before .before .before .before .before .before .walk-step in
-    rw (c .before .before .before .before .before .before .write-walker .ensures, c .before .before .write-record .ensures)
+    rw (c .before .before .before .before .before .before .write-walker .ensures, c .before .before .write-four .ensures)
     (stepped _ _ _ (c .before .before .before .before .before .before .before .before .before .before .before .before .before .before .before .if1 .left) (c .before .before .before .before .before .before .before .before .before .before .before .before .before .before .if2 .left) (at .result) (at .ensures) (k .result) (k .ensures) (Gave _ _) (c .before .before .before .before .before .before .before .before .before .went .given .1))
 
 same-length-3 : tie.Need-same-length-3
@@ -73,7 +73,7 @@ rl-walk-step-spec =
     walk-step-requires
     enum-known-went
     write-walker-requires
-    write-record-requires
+    write-four-requires
     enum-told
     enum-told-2
     same-length

@@ -1,10 +1,10 @@
--- `host::write_record` meets its contract: four stores at the front.
+-- `host::write_four` meets its contract: four stores at the front.
 use native.Mathlib.Omega.{arith}
 use lib.ListN.{length-set}
 use Rattle.host.proofs.Laid.{stored4}
 use borrow.Author.Needs.{needs}
-use Rattle.host.proofs.write_record.Statement.{statement}
-use Rattle.host.proofs.write_record.Tie as tie
+use Rattle.host.proofs.write_four.Statement.{statement}
+use Rattle.host.proofs.write_four.Tie as tie
 
 slice-write-out : tie.Need-slice-write-out
 slice-write-out c = search needs
@@ -24,8 +24,8 @@ same-length c = search needs
 returns : tie.Need-returns
 returns c = stored4 (c .args .out .now) _ _ _ _ (c .pre)
 
-pub write-record-spec : {M : Type 1} → statement M
-write-record-spec =
+pub write-four-spec : {M : Type 1} → statement M
+write-four-spec =
     tie.close
     (tie.spec
     slice-write-out

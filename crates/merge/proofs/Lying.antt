@@ -12,34 +12,14 @@ use Rattle.merge.specs.Scratch.{pairOf, surveyOf, surveyed, Layer, Cover
 use Rattle.merge.specs.Write.{Run, Inside, Shared, Under, ended, first, second, shared, width, widths, AllServe, AllSome}
 use Rattle.merge.proofs.Covering.{pair-covers}
 use Rattle.merge.proofs.Surveying.{starts-apart, start-within}
-use Rattle.merge.specs.Tail.{onlyThis, onlyThat, trimmed, trailing}
+use Rattle.merge.specs.Tail.{onlyThis, onlyThat, trimmed}
+use Rattle.merge.proofs.Trimming.{ending, trimmed-none, trimmed-some}
 
--- all runs of one input
-abbrev pub oneSided : List Report → Bool
-oneSided rs = onlyThis rs || onlyThat rs
-
--- ---- what is trimmed
-
-pub trimmed-none : (rs : List Report) → oneSided rs ≡ true → trimmed rs ≡ []
-unfolding trimmed
-trimmed-none [] h = refl
-trimmed-none (r ∷ rs) h = rw h
-
-pub trimmed-on : (r : Report) (rs : List Report) → oneSided (r ∷ rs) ≡ false → trimmed (r ∷ rs) ≡ r ∷ trimmed rs
-unfolding trimmed
-trimmed-on r rs h = rw h
-
-pub trimmed-some : (rs : List Report) → oneSided rs ≡ false → 0 < length (trimmed rs)
+-- reports of both inputs leave some
+trimmed-full : (rs : List Report) → ending rs ≡ false → 0 < length (trimmed rs)
 unfolding onlyThis
-trimmed-some [] h = absurd (true-not-false h)
-trimmed-some (r ∷ rs) h = rw (trimmed-on r rs h) (omega arith)
-
--- what is left, and then the runs that were trimmed, are all of them
-pub trimmed-back : (rs : List Report) → trimmed rs ++ trailing rs ≡ rs
-unfolding trimmed trailing
-trimmed-back [] = refl
-trimmed-back (r ∷ rs) =
-    by-test (oneSided (r ∷ rs)) (λ h. rw h) (λ h. rw h (ap (λ (l : List Report). r ∷ l) (trimmed-back rs)))
+trimmed-full [] h = absurd (true-not-false h)
+trimmed-full (r ∷ rs) h = rw (trimmed-some r rs h) (omega arith)
 
 this-append : (a b : List Report) → onlyThis (a ++ b) ≡ (onlyThis a && onlyThis b)
 unfolding onlyThis
@@ -65,19 +45,19 @@ some-pair [] h = absurd (true-not-false h)
 some-pair (r ∷ l) h = omega arith
 
 -- what goes before two-sided reports is two-sided with them
-sided-after : (a b : List Report) → oneSided b ≡ false → oneSided (a ++ b) ≡ false
+sided-after : (a b : List Report) → ending b ≡ false → ending (a ++ b) ≡ false
 sided-after a b h =
     let s = or-split (onlyThis b) (onlyThat b) h in
     rw (this-append a b, that-append a b, s .0, s .1, and-false (onlyThis a), and-false (onlyThat a))
 
 -- and so is what follows
-sided-before : (a b : List Report) → onlyThis a ≡ false → onlyThat a ≡ false → oneSided (a ++ b) ≡ false
+sided-before : (a b : List Report) → onlyThis a ≡ false → onlyThat a ≡ false → ending (a ++ b) ≡ false
 sided-before a b h k = rw (this-append a b, that-append a b, h, k)
 
 -- reports before two-sided ones stay
-trimmed-append : (a b : List Report) → oneSided b ≡ false → trimmed (a ++ b) ≡ a ++ trimmed b
+trimmed-append : (a b : List Report) → ending b ≡ false → trimmed (a ++ b) ≡ a ++ trimmed b
 trimmed-append [] b h = refl
-trimmed-append (r ∷ a) b h = trimmed-on r (a ++ b) (sided-after (r ∷ a) b h) ∙ ap (λ (l : List Report). r ∷ l) (trimmed-append a b h)
+trimmed-append (r ∷ a) b h = trimmed-some r (a ++ b) (sided-after (r ∷ a) b h) ∙ ap (λ (l : List Report). r ∷ l) (trimmed-append a b h)
 
 -- ---- inside what is covered
 
@@ -91,13 +71,13 @@ covers-inside n m i j (both a b ∷ rs) c =
     (omega arith, omega (arith, c .2), omega arith, omega (arith, c .3), rw (p, q) (covers-inside n m (suc i) (suc j) rs (c .4)))
 
 -- reports before one-sided ones, trimmed together: only reports of the former are left
-inside-before : (n m i j : ℕ) (a b : List Report) → oneSided b ≡ true → Inside i n j m a → Inside i n j m (trimmed (a ++ b))
+inside-before : (n m i j : ℕ) (a b : List Report) → ending b ≡ true → Inside i n j m a → Inside i n j m (trimmed (a ++ b))
 unfolding trimmed
 inside-before n m i j [] b h v = rw (trimmed-none b h) (record {})
 inside-before n m i j (this l k ∷ a) b h v =
-    by-test (oneSided (this l k ∷ (a ++ b))) (λ t. rw t (record {})) (λ t. rw t (v .0, v .1, v .2, inside-before n m k j a b h (v .3)))
+    by-test (ending (this l k ∷ (a ++ b))) (λ t. rw t (record {})) (λ t. rw t (v .0, v .1, v .2, inside-before n m k j a b h (v .3)))
 inside-before n m i j (that l k ∷ a) b h v =
-    by-test (oneSided (that l k ∷ (a ++ b))) (λ t. rw t (record {})) (λ t. rw t (v .0, v .1, v .2, inside-before n m i k a b h (v .3)))
+    by-test (ending (that l k ∷ (a ++ b))) (λ t. rw t (record {})) (λ t. rw t (v .0, v .1, v .2, inside-before n m i k a b h (v .3)))
 inside-before n m i j (both x y ∷ a) b h v =
     (v .0, v .1, v .2, v .3, inside-before n m (suc x) (suc y) a b h (v .4))
 
@@ -176,11 +156,11 @@ module _ (e0 x0 e1 x1 : List ℕ) (y0 : Layer e0 x0) (y1 : Layer e1 x1) where
       let p : Paired a b = paired a b (omega (arith, c .0, c .2)) (omega (arith, c .1, c .3)) in
       rw (that-append (P a b) (S rs), p .no-that)
 
-  survey-sided : (i j : ℕ) (rs : List Report) → Covers (length e0) (length e1) i j rs → oneSided (S rs) ≡ oneSided rs
+  survey-sided : (i j : ℕ) (rs : List Report) → Covers (length e0) (length e1) i j rs → ending (S rs) ≡ ending rs
   survey-sided i j rs c = rw (survey-this i j rs c, survey-that i j rs c)
 
   -- one-sided reports leave nothing in either
-  under-none : (i j : ℕ) (ls : List Report) → Covers (length e0) (length e1) i j ls → oneSided ls ≡ true → Under e0 e1 (trimmed ls) (trimmed (S ls))
+  under-none : (i j : ℕ) (ls : List Report) → Covers (length e0) (length e1) i j ls → ending ls ≡ true → Under e0 e1 (trimmed ls) (trimmed (S ls))
   under-none i j ls c h = rw (trimmed-none ls h, trimmed-none (S ls) (survey-sided i j ls c ∙ h)) ended
 
   pub under-trimmed : (i j : ℕ) (ls : List Report) → Covers (length e0) (length e1) i j ls
@@ -188,36 +168,36 @@ module _ (e0 x0 e1 x1 : List ℕ) (y0 : Layer e0 x0) (y1 : Layer e1 x1) where
   unfolding surveyed surveyOf onlyThis onlyThat
   under-trimmed i j [] c = under-none i j [] c refl
   under-trimmed i j (this l h ∷ rs) c =
-      by-test (oneSided (this l h ∷ rs)) (under-none i j (this l h ∷ rs) c)
-      (λ t. rw (trimmed-on (this l h) rs t, trimmed-on (this (startOf e0 l) (getD e0 (h - 1) 0)) (S rs) (survey-sided i j (this l h ∷ rs) c ∙ t))
+      by-test (ending (this l h ∷ rs)) (under-none i j (this l h ∷ rs) c)
+      (λ t. rw (trimmed-some (this l h) rs t, trimmed-some (this (startOf e0 l) (getD e0 (h - 1) 0)) (S rs) (survey-sided i j (this l h ∷ rs) c ∙ t))
       (first (run-full e0 x0 y0 l h (c .1) (c .2)) (under-trimmed h j rs (c .3))))
   under-trimmed i j (that l h ∷ rs) c =
-      by-test (oneSided (that l h ∷ rs)) (under-none i j (that l h ∷ rs) c)
-      (λ t. rw (trimmed-on (that l h) rs t, trimmed-on (that (startOf e1 l) (getD e1 (h - 1) 0)) (S rs) (survey-sided i j (that l h ∷ rs) c ∙ t))
+      by-test (ending (that l h ∷ rs)) (under-none i j (that l h ∷ rs) c)
+      (λ t. rw (trimmed-some (that l h) rs t, trimmed-some (that (startOf e1 l) (getD e1 (h - 1) 0)) (S rs) (survey-sided i j (that l h ∷ rs) c ∙ t))
       (second (run-full e1 x1 y1 l h (c .1) (c .2)) (under-trimmed i h rs (c .3))))
   under-trimmed i j (both a b ∷ rs) c =
-      rw (trimmed-on (both a b) rs refl)
-      (by-test (oneSided rs) last-shared (more (under-trimmed (suc i) (suc j) rs (c .4))))
+      rw (trimmed-some (both a b) rs refl)
+      (by-test (ending rs) last-shared (more (under-trimmed (suc i) (suc j) rs (c .4))))
     where
       p : Paired a b
       p = paired a b (omega (arith, c .0, c .2)) (omega (arith, c .1, c .3))
 
-      last-shared : oneSided rs ≡ true → Under e0 e1 (both a b ∷ trimmed rs) (trimmed (P a b ++ S rs))
+      last-shared : ending rs ≡ true → Under e0 e1 (both a b ∷ trimmed rs) (trimmed (P a b ++ S rs))
       last-shared t =
-          let s : oneSided (S rs) ≡ true = survey-sided (suc i) (suc j) rs (c .4) ∙ t in
+          let s : ending (S rs) ≡ true = survey-sided (suc i) (suc j) rs (c .4) ∙ t in
           rw (trimmed-none rs t)
           (shared {i = a} {j = b} (trimmed (P a b ++ S rs))
           (record {
             there0 = omega (arith, c .0, c .2);
             there1 = omega (arith, c .1, c .3);
-            some = trimmed-some (P a b ++ S rs) (sided-before (P a b) (S rs) (p .no-this) (p .no-that));
+            some = trimmed-full (P a b ++ S rs) (sided-before (P a b) (S rs) (p .no-this) (p .no-that));
             inside = inside-before (getD e0 a 0) (getD e1 b 0) (startOf e0 a) (startOf e1 b) (P a b) (S rs) s (p .inside);
           })
           (sym (append-nil (trimmed (P a b ++ S rs)))) ended)
 
-      more : Under e0 e1 (trimmed rs) (trimmed (S rs)) → oneSided rs ≡ false → Under e0 e1 (both a b ∷ trimmed rs) (trimmed (P a b ++ S rs))
+      more : Under e0 e1 (trimmed rs) (trimmed (S rs)) → ending rs ≡ false → Under e0 e1 (both a b ∷ trimmed rs) (trimmed (P a b ++ S rs))
       more u t =
-          let s : oneSided (S rs) ≡ false = survey-sided (suc i) (suc j) rs (c .4) ∙ t in
+          let s : ending (S rs) ≡ false = survey-sided (suc i) (suc j) rs (c .4) ∙ t in
           shared {i = a} {j = b} (P a b)
           (record {
             there0 = omega (arith, c .0, c .2);

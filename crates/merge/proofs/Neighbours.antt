@@ -15,7 +15,7 @@ use Rattle.merge.specs.Scratch.{Covers}
 use Rattle.merge.specs.Write.{named, itemsBy}
 use Rattle.merge.specs.Tail.{trimmed, trailing}
 use Rattle.merge.specs.Woven.{noEntry, ahead, Woven, Level, apart}
-use Rattle.merge.proofs.Lying.{trimmed-back}
+use Rattle.merge.proofs.Trimming.{trimmed-then-trailing}
 
 -- every earlier item before every later one
 unfoldable pub ordered : (Entry → Entry → Bool) → List Entry → Bool
@@ -96,7 +96,7 @@ module _ (lt same : Entry → Entry → Bool) (es fs : List Entry) where
 
   -- shared items are the same, also of what is left
   pub level-trimmed : (i j : ℕ) (ls : List Report) → Woven lt same es fs i j ls → Level same es fs (trimmed ls)
-  level-trimmed i j ls w = level-front (trimmed ls) (trailing ls) (rw (trimmed-back ls) (woven-level i j ls w))
+  level-trimmed i j ls w = level-front (trimmed ls) (trailing ls) (rw (← (trimmed-then-trailing ls)) (woven-level i j ls w))
 
   -- what holds of all that is left of both lists holds of what the reports name
   every-woven : (p : Entry → Bool) (i j : ℕ) (ls : List Report) → Woven lt same es fs i j ls → every p (drop i es) ≡ true → every p (drop j fs) ≡ true
@@ -179,7 +179,7 @@ module _ (lt same : Entry → Entry → Bool) (es fs : List Entry) where
     ordered-trimmed ls w a b =
         let whole : ordered lt (itemsBy es fs ls) ≡ true = woven-ordered 0 0 ls w a b in
         let cut : itemsBy es fs (trimmed ls) ++ itemsBy es fs (trailing ls) ≡ itemsBy es fs ls =
-        sym (items-append es fs (trimmed ls) (trailing ls)) ∙ ap (itemsBy es fs) (trimmed-back ls) in
+        sym (items-append es fs (trimmed ls) (trailing ls)) ∙ ap (itemsBy es fs) (sym (trimmed-then-trailing ls)) in
         ordered-split lt (itemsBy es fs (trimmed ls)) (itemsBy es fs (trailing ls)) (ap (ordered lt) cut ∙ whole) .front
 
     -- no two neighbours are alike

@@ -15,44 +15,40 @@ use Rattle.merge.specs.Scratch.{report}
 use Rattle.merge.specs.Tail.{onlyThis, onlyThat, trimmed, trailing}
 
 -- all of them runs of one input
-unfoldable pub ending : List Report → Bool
-unfolding onlyThis onlyThat
+abbrev pub ending : List Report → Bool
 ending rs = onlyThis rs || onlyThat rs
 
 pub ending-this : (rs : List Report) → onlyThis rs ≡ true → ending rs ≡ true
-unfolding ending
 ending-this rs h = rw h
 
 pub ending-that : (rs : List Report) → onlyThat rs ≡ true → ending rs ≡ true
-unfolding ending
 ending-that rs h = rw h (or-true (onlyThis rs))
 
 -- by which of the two it is
 pub by-ending {ℓ} : {P : Type ℓ} (rs : List Report) → ending rs ≡ true → (onlyThis rs ≡ true → P) → (onlyThat rs ≡ true → P) → P
-unfolding ending
 by-ending rs h f g = by-test (onlyThis rs) f (λ p. g (rw p at h))
 
 ending-tail : (r : Report) (rs : List Report) → ending (r ∷ rs) ≡ true → ending rs ≡ true
-unfolding ending onlyThis onlyThat
+unfolding onlyThis onlyThat
 ending-tail (this l h) rs e = ending-this rs (sym (or-false (onlyThis rs)) ∙ e)
 ending-tail (that l h) rs e = ending-that rs e
 ending-tail (both i j) rs e = absurd (true-not-false (sym e))
 
 -- by its first report
 pub ending-with-this : (l h : ℕ) (rs : List Report) → ending (this l h ∷ rs) ≡ true → onlyThis (this l h ∷ rs) ≡ true
-unfolding ending onlyThis onlyThat
+unfolding onlyThis onlyThat
 ending-with-this l h rs e = sym (or-false (onlyThis rs)) ∙ e
 
 pub ending-with-that : (l h : ℕ) (rs : List Report) → ending (that l h ∷ rs) ≡ true → onlyThat (that l h ∷ rs) ≡ true
-unfolding ending onlyThis onlyThat
+unfolding onlyThis onlyThat
 ending-with-that l h rs e = e
 
 pub ending-with-both : (i j : ℕ) (rs : List Report) → ending (both i j ∷ rs) ≡ false
-unfolding ending onlyThis onlyThat
+unfolding onlyThis onlyThat
 ending-with-both i j rs = refl
 
 pub ending-none : ending [] ≡ true
-unfolding ending onlyThis
+unfolding onlyThis
 ending-none = refl
 
 ending-drop : (n : ℕ) (rs : List Report) → ending rs ≡ true → ending (drop n rs) ≡ true
@@ -63,12 +59,12 @@ ending-drop (suc n) (r ∷ rs) e = ending-drop n rs (ending-tail r rs e)
 -- ---- the cut
 
 pub trimmed-none : (rs : List Report) → ending rs ≡ true → trimmed rs ≡ []
-unfolding ending trimmed
+unfolding trimmed
 trimmed-none [] e = refl
 trimmed-none (r ∷ rs) e = rw e
 
 pub trimmed-some : (r : Report) (rs : List Report) → ending (r ∷ rs) ≡ false → trimmed (r ∷ rs) ≡ r ∷ trimmed rs
-unfolding ending trimmed
+unfolding trimmed
 trimmed-some r rs e = rw e
 
 pub trailing-all : (rs : List Report) → ending rs ≡ true → trailing rs ≡ rs
@@ -81,7 +77,7 @@ trailing-tail r rs e = ap (λ (ts : List Report). drop (length ts) (r ∷ rs)) (
 
 -- what is trimmed stands at the front
 pub trimmed-take : (rs : List Report) → trimmed rs ≡ take (length (trimmed rs)) rs
-unfolding trimmed ending
+unfolding trimmed
 trimmed-take [] = refl
 trimmed-take (r ∷ rs) =
     by-test (ending (r ∷ rs))
@@ -95,7 +91,7 @@ trimmed-then-trailing rs =
     sym (take-append-drop (length (trimmed rs)) rs) ∙ ap (λ (ts : List Report). ts ++ trailing rs) (sym (trimmed-take rs))
 
 pub trimmed-short : (rs : List Report) → length (trimmed rs) ≤ length rs
-unfolding trimmed ending
+unfolding trimmed
 trimmed-short [] = omega arith
 trimmed-short (r ∷ rs) =
     let ih : length (trimmed rs) ≤ length rs = trimmed-short rs in
@@ -103,7 +99,7 @@ trimmed-short (r ∷ rs) =
 
 -- what trails is of one input
 pub trailing-ends : (rs : List Report) → ending (trailing rs) ≡ true
-unfolding trailing trimmed ending onlyThis onlyThat
+unfolding trailing trimmed onlyThis onlyThat
 trailing-ends [] = refl
 trailing-ends (r ∷ rs) = by-test (ending (r ∷ rs)) (λ e. ap ending (trailing-all (r ∷ rs) e) ∙ e) (λ e. ap ending (trailing-tail r rs e) ∙ trailing-ends rs)
 
@@ -111,7 +107,7 @@ trailing-ends (r ∷ rs) = by-test (ending (r ∷ rs)) (λ e. ap ending (trailin
 
 -- past the last report with which what follows is not of one input
 pub trimmed-at : (rs : List Report) (n : ℕ) → ending (drop (suc n) rs) ≡ true → ending (drop n rs) ≡ false → length (trimmed rs) ≡ suc n
-unfolding ending onlyThis
+unfolding onlyThis
 trimmed-at [] zero e f = absurd (true-not-false f)
 trimmed-at [] (suc n) e f = absurd (true-not-false f)
 trimmed-at (r ∷ rs) zero e f = ap length (trimmed-some r rs f) ∙ ap (λ (ts : List Report). suc (length ts)) (trimmed-none rs e)
@@ -170,7 +166,7 @@ kind-ends (suc (suc k)) rs m h = absurd (omega arith)
 
 -- a run before runs of the other input, or a shared item before any
 other-kind : (k : ℕ) (q r : Report) (rs : List Report) → k < 2 → kindOf r ≡ k → (kindOf q ≡ k → ⊥) → ending (q ∷ r ∷ rs) ≡ false
-unfolding ending onlyThis onlyThat
+unfolding onlyThis onlyThat
 other-kind k (this x y) (this l h) rs m e f = absurd (f e)
 other-kind k (this x y) (that l h) rs m e f = refl
 other-kind k (this x y) (both i j) rs m e f = refl
@@ -208,7 +204,7 @@ trimmed-back k n rs d m s o e h f =
 
 -- nothing is cut off past a shared item
 pub trimmed-both : (rs : List Report) (d : Report) → 0 < length rs → kindOf (getD rs (length rs - 1) d) ≡ 2 → length (trimmed rs) ≡ length rs
-unfolding ending onlyThis onlyThat
+unfolding onlyThis onlyThat
 trimmed-both rs d o e =
     let n : ℕ = length rs - 1 in
     let q : suc n ≡ length rs = omega arith in

@@ -18,6 +18,7 @@ use Rattle.merge.specs.Orders.{keyLess, valLess}
 use Rattle.merge.specs.Woven.{noEntry, Woven}
 use Rattle.merge.proofs.Groupings.{Equal, Ordered, Steps, length-ends, some-ends, head-last, own-end, start-in, starts-rise, start-last, Inside, inside, last-same, thenBy, alsoBy, lasts-step}
 use Rattle.merge.proofs.Pairing.{run-ahead, ahead-run, Meet, pair-woven}
+use Rattle.merge.proofs.Bodies.{lasts-lasts}
 
 or-left : (a b : Bool) → a ≡ true → (a || b) ≡ true
 or-left a b h = rw h
@@ -210,28 +211,6 @@ ordered-list =
       left = λ x y z h k. let b : Both x y = parts x y h in rw (b .key, b .val) k;
       right = λ x y z h k. let b : Both y z = parts y z k in rw (← (b .key), ← (b .val)) h;
     }
-
--- one entry in front of others
-lasts-cons : (sm : Entry → Entry → Bool) (a : Entry) (l : List Entry) → 0 < length l
-    → lastsOf sm (a ∷ l) ≡ cond (sm a (getD l 0 noEntry)) (lastsOf sm l) (a ∷ lastsOf sm l)
-unfolding lastsOf
-lasts-cons sm a [] h = absurd (omega arith)
-lasts-cons sm a (b ∷ l) h = refl
-
--- the last entry of a key is the last of its last value
-pub lasts-lasts : (es : List Entry) → lastsOf sameKey (lastsOf sameList es) ≡ lastsOf sameKey es
-unfolding lastsOf
-lasts-lasts [] = refl
-lasts-lasts (a ∷ []) = refl
-lasts-lasts (a ∷ b ∷ es) =
-    let ih : lastsOf sameKey (lastsOf sameList (b ∷ es)) ≡ lastsOf sameKey (b ∷ es) = lasts-lasts (b ∷ es) in
-    let some : 0 < length (lastsOf sameList (b ∷ es)) = omega (arith, some-ends sameList 0 b es, length-ends sameList 0 (b ∷ es)) in
-    let key : b .key ≡ getD (lastsOf sameList (b ∷ es)) 0 noEntry .key = parts b (getD (lastsOf sameList (b ∷ es)) 0 noEntry) (head-last sameList equal-list b es) .key in
-    by-test (sameList a b)
-    (λ h. rw (h, and-left (eqb (a .key) (b .key)) _ h) ih)
-    (λ h. rw h (lasts-cons sameKey a (lastsOf sameList (b ∷ es)) some
-    ∙ ap (λ (k : ℕ). cond (eqb (a .key) k) (lastsOf sameKey (lastsOf sameList (b ∷ es))) (a ∷ lastsOf sameKey (lastsOf sameList (b ∷ es)))) (sym key)
-    ∙ ap (λ (l : List Entry). cond (sameKey a b) l (a ∷ l)) ih))
 
 -- `before` is by value, then by time
 by-time : (a b c d e : Bool) → (a || (b && (c || (d && e)))) ≡ ((a || (b && c)) || ((b && d) && e))

@@ -88,23 +88,9 @@ pub range-lower : (ends : List ℕ) (i : ℕ) (r : Range) → r ≡ childRange e
 unfolding childRange
 range-lower ends i r e h = simp (e, lt-ltb i (length ends) h)
 
--- none stays before i
-pub count-found : (m : ℕ → Bool) (from to i : ℕ) → countKept m from (to - from) ≡ countKept m i (to - i) → i < to → m i ≡ true → true ≡ ltb 0 (countKept m from (to - from))
-count-found m from to i w h k =
-    let d = count-in m i to h k in sym (lt-ltb 0 (countKept m from (to - from)) (omega arith))
-
-pub count-past : (m : ℕ → Bool) (from to i : ℕ) → countKept m from (to - from) ≡ countKept m i (to - i) → to ≤ i → false ≡ ltb 0 (countKept m from (to - from))
-count-past m from to i w h =
-    let d = count-none m i to h in sym (le-ltb 0 (countKept m from (to - from)) (omega arith))
-
--- the same from the test over its range
-pub list-any : (m : ℕ → Bool) (ends : List ℕ) (i : ℕ) (r : Range) (b : Bool) → r ≡ childRange ends i → b ≡ ltb 0 (countKept m (r .lower) (r .upper - r .lower))
-    → listKept m ends i ≡ b
-list-any m ends i r b e q = list-left m ends i r (countKept m (r .lower) (r .upper - r .lower)) e refl ∙ sym q
-
 -- ---- lists and their items together
 
-count-add : (m : ℕ → Bool) (i a b : ℕ) → countKept m i (a + b) ≡ countKept m i a + countKept m (i + a) b
+pub count-add : (m : ℕ → Bool) (i a b : ℕ) → countKept m i (a + b) ≡ countKept m i a + countKept m (i + a) b
 unfolding countKept
 count-add m i zero b = let e : i ≡ i + 0 = omega arith in let z : 0 + b ≡ b = omega arith in (λ j. countKept m (e j) (z j)) ∙ omega arith
 count-add m i (suc a) b =

@@ -1,18 +1,20 @@
--- The times and their diffs on their way: what is written, with what is left to write, is the whole.
+-- The times and their diffs on their way: what is written, with what is left to write and the ends, is the whole.
 use Prim.Native.Nat.{ℕ, zero, suc, _+_, _-_, _<_, _≤_}
 use mathlib.Core.Path.{_≡_, refl, sym, _∙_, ap}
 use mathlib.Core.Bool.{Bool, true, false}
 use mathlib.Core.List.{List, [], _∷_, _++_}
 use native.Mathlib.Omega.{arith}
 use lib.Dec.{ltb}
-use lib.ListN.{length, getD, take, drop, length-append}
+use lib.ListN.{length, getD, set, take, drop, length-append, length-set}
 use lib.Seq.{sets, length-sets, drop-cons}
 use borrow.Author.Tests.{ltb-true, ltb-false}
 use Rattle.chunk.specs.Contents.{startOf}
+use Rattle.laws.proofs.Lists.{no-length}
 use Rattle.laws.proofs.Tests.{by-test}
-use Rattle.retain.specs.Layers.{countKept, pickAt, countUp, leavesOut, hasDiff, EndsWithin, EndsByOne, KeptRun}
-use Rattle.retain.proofs.Counts.{count-out, count-none}
-use Rattle.retain.proofs.Stores.{sets-sets, sets-append, fill-three}
+use Rattle.retain.specs.Frontier.{ordered}
+use Rattle.retain.specs.Layers.{countKept, pickAt, countUp, leavesOut, hasDiff, bit, EndsWithin, EndsStep, Ready, Bodies}
+use Rattle.retain.proofs.Counts.{count-in, count-out, count-none}
+use Rattle.retain.proofs.Stores.{set-sets, set-over, sets-sets, fill-three}
 
 length-pickAt : (m : ℕ → Bool) (f : ℕ → ℕ) (i n : ℕ) → length (pickAt m f i n) ≡ countKept m i n
 unfolding pickAt countKept
@@ -77,22 +79,14 @@ unfolding runOf
 run-list l i zero h = refl
 run-list l i (suc n) h = ap (λ (x : List ℕ). getD l i 0 ∷ x) (run-list l (suc i) n (omega arith)) ∙ sym (ap (take (suc n)) (drop-cons l i 0 (omega arith)))
 
-run-diffs : (ends l : List ℕ) (i n : ℕ) → EndsByOne ends → ((k : ℕ) → k < i + n → i ≤ k → hasDiff ends k ≡ true) → startOf ends i + n ≤ length l
-    → runOf (λ (t : ℕ). getD l (startOf ends t) 0) i n ≡ take n (drop (startOf ends i) l)
-unfolding runOf
-run-diffs ends l i zero one f h = refl
-run-diffs ends l i (suc n) one f h =
-    let s : getD ends i 0 ≡ suc (startOf ends i) = one i (f i (omega arith) (omega arith)) in
-    ap (λ (x : List ℕ). getD l (startOf ends i) 0 ∷ x) (run-diffs ends l (suc i) n one (λ k p q. f k (omega arith) (omega arith)) (omega arith) ∙ ap (λ (x : ℕ). take n (drop x l)) s)
-    ∙ sym (ap (take (suc n)) (drop-cons l (startOf ends i) 0 (omega arith)))
+-- ---- what is left
 
--- the diffs of a run are within theirs
-pub run-within : (ends : List ℕ) (i n top : ℕ) → EndsByOne ends → EndsWithin ends top → ((k : ℕ) → k < i + suc n → i ≤ k → hasDiff ends k ≡ true) → startOf ends i + suc n ≤ top
-run-within ends i zero top one within f = let w : startOf ends i < top = within i (f i (omega arith) (omega arith)) in omega arith
-run-within ends i (suc n) top one within f =
-    let s : getD ends i 0 ≡ suc (startOf ends i) = one i (f i (omega arith) (omega arith)) in
-    let ih : getD ends i 0 + suc n ≤ top = run-within ends (suc i) n top one within (λ k p q. f k (omega arith) (omega arith)) in
-    omega arith
+pick-in : (m : ℕ → Bool) (f : ℕ → ℕ) (i to : ℕ) → i < to → m i ≡ true → pickAt m f i (to - i) ≡ f i ∷ pickAt m f (i + 1) (to - (i + 1))
+unfolding pickAt
+pick-in m f i to h k =
+    let q : to - i ≡ suc (to - (i + 1)) = omega arith in
+    let s : i + 1 ≡ suc i = omega arith in
+    simp (q, s, k)
 
 pick-out : (m : ℕ → Bool) (f : ℕ → ℕ) (i to : ℕ) → i < to → m i ≡ false → pickAt m f i (to - i) ≡ pickAt m f (i + 1) (to - (i + 1))
 unfolding pickAt
@@ -101,27 +95,23 @@ pick-out m f i to h k =
     let s : i + 1 ≡ suc i = omega arith in
     simp (q, s, k)
 
-pick-none : (m : ℕ → Bool) (f : ℕ → ℕ) (i to : ℕ) → to ≤ i → pickAt m f i (to - i) ≡ []
-unfolding pickAt
-pick-none m f i to h = let q : to - i ≡ 0 = omega arith in simp q
+-- where some are left, one is
+some-left : (m : ℕ → Bool) (i n : ℕ) → 0 < countKept m i n → (k : ℕ) × ((i ≤ k) × ((k < i + n) × (m k ≡ true)))
+unfolding countKept
+some-left m i zero h = absurd (omega arith)
+some-left m i (suc n) h =
+    by-test (m i)
+    (λ k. (i, (omega arith, (omega arith, k))))
+    (λ k. let w = some-left m (suc i) n (simp k at h) in (w .0, (omega (arith, w .1 .0), (omega (arith, w .1 .1 .0), w .1 .1 .1))))
 
--- three bodies, a run of each
-three : (out a b d I E D : List ℕ) (at n k : ℕ) → k ≡ length a → k ≡ length b → k ≡ length d → at + k + length I ≤ n → at + k + length E ≤ n
-    → sets (sets (sets (sets (sets (sets out at a) (n + at) b) (n + n + at) d) (at + k) I) (n + (at + k)) E) (n + n + (at + k)) D
-    ≡ sets (sets (sets out at (a ++ I)) (n + at) (b ++ E)) (n + n + at) (d ++ D)
-three out a b d I E D at n k ha hb hd hi he =
-    let pI : at + length a ≡ at + k = omega arith in
-    let pE : n + at + length b ≡ n + (at + k) = omega arith in
-    let pD : n + n + at + length d ≡ n + n + (at + k) = omega arith in
-    let o : List ℕ = sets out at a in
-    ap (λ (l : List ℕ). sets (sets l (n + (at + k)) E) (n + n + (at + k)) D)
-    (sym (sets-sets I d (sets o (n + at) b) (at + k) (n + n + at) (omega arith)) ∙ ap (λ (l : List ℕ). sets l (n + n + at) d) (sym (sets-sets I b o (at + k) (n + at) (omega arith))))
-    ∙ ap (λ (l : List ℕ). sets l (n + n + (at + k)) D) (sym (sets-sets E d (sets (sets o (at + k) I) (n + at) b) (n + (at + k)) (n + n + at) (omega arith)))
-    ∙ sym (
-    ap (λ (l : List ℕ). sets (sets l (n + at) (b ++ E)) (n + n + at) (d ++ D)) (sets-append a I out at ∙ ap (λ (j : ℕ). sets o j I) pI)
-    ∙ ap (λ (l : List ℕ). sets l (n + n + at) (d ++ D)) (sets-append b E (sets o (at + k) I) (n + at) ∙ ap (λ (j : ℕ). sets (sets (sets o (at + k) I) (n + at) b) j E) pE)
-    ∙ sets-append d D (sets (sets (sets o (at + k) I) (n + at) b) (n + (at + k)) E) (n + n + at)
-    ∙ ap (λ (j : ℕ). sets (sets (sets (sets (sets o (at + k) I) (n + at) b) (n + (at + k)) E) (n + n + at) d) j D) pD)
+-- a list starts no earlier than the ones before it
+starts-rise : (ends : List ℕ) (i d : ℕ) → EndsStep ends → i + d ≤ length ends → startOf ends i ≤ startOf ends (i + d)
+starts-rise ends i zero s h = let e : i ≡ i + 0 = omega arith in let q = ap (startOf ends) e in omega arith
+starts-rise ends i (suc d) s h =
+    let r : startOf ends i ≤ startOf ends (i + d) = starts-rise ends i d s (omega arith) in
+    let a = s (i + d) (omega arith) .0 in
+    let e : startOf ends (i + suc d) ≡ getD ends (i + d) 0 = let z : i + suc d ≡ suc (i + d) = omega arith in ap (startOf ends) z in
+    omega arith
 
 module _ (m : ℕ → Bool) (times diffEnds diffs : List ℕ) where
   abbrev time : ℕ → ℕ
@@ -135,121 +125,109 @@ module _ (m : ℕ → Bool) (times diffEnds diffs : List ℕ) where
   left i = countKept m i (length times - i)
 
   -- what is left to write, from i on
-  abbrev filled : ℕ → List ℕ → ℕ → ℕ → List ℕ
-  filled n out at i =
-      sets (sets (sets out at (pickAt m time i (length times - i))) (n + at) (countUp at (left i))) (n + n + at) (pickAt m diff i (length times - i))
+  abbrev rest : (ℕ → ℕ) → ℕ → List ℕ
+  rest f i = pickAt m f i (length times - i)
+
+  rest-length : (f : ℕ → ℕ) (i : ℕ) → length (rest f i) ≡ left i
+  rest-length f i = length-pickAt m f i (length times - i)
 
   pub record Leaving (n : ℕ) (out : List ℕ) (at i : ℕ) : Type 0 where
     pub place : at + left i ≡ n
     pub room : length out ≡ n + (n + n)
-    pub whole : filled n out at i ≡ leavesOut m times diffEnds diffs
+    pub whole : sets (sets (sets out at (rest time i)) (n + n + at) (rest diff i)) n (countUp 0 n) ≡ leavesOut m times diffEnds diffs
 
   pub leaving-start : (n : ℕ) (out : List ℕ) → n ≡ countKept m 0 (length times) → length out ≡ n + (n + n) → Leaving n out 0 0
   leaving-start n out e h =
       let z : length times - 0 ≡ length times = omega arith in
       let I : List ℕ = pickAt m time 0 (length times) in
-      let E : List ℕ = countUp 0 (countKept m 0 (length times)) in
       let D : List ℕ = pickAt m diff 0 (length times) in
       let li : length I ≡ countKept m 0 (length times) = length-pickAt m time 0 (length times) in
-      let le : length E ≡ countKept m 0 (length times) = length-countUp 0 (countKept m 0 (length times)) in
+      let le : length (countUp 0 n) ≡ n = length-countUp 0 n in
       let ld : length D ≡ countKept m 0 (length times) = length-pickAt m diff 0 (length times) in
       record {
         place = simp z (omega arith);
         room = h;
-        whole = simp z (fill-three I E D out (n + 0) (n + n + 0) (omega arith) (omega arith) (omega arith));
-      }
-
-  -- what follows a run: the next does not stay, or there is none
-  past-run : (f : ℕ → ℕ) (i end : ℕ) → KeptRun m i end (length times) → pickAt m f end (length times - end) ≡ pickAt m f (end + 1) (length times - (end + 1))
-  past-run f i end r =
-      by-test (ltb end (length times))
-      (λ h. let b : end < length times = ltb-true _ _ h in pick-out m f end (length times) b (r .stop b))
-      (λ h. let b : length times ≤ end = ltb-false _ _ h in pick-none m f end (length times) b ∙ sym (pick-none m f (end + 1) (length times) (omega arith)))
-
-  past-count : (i end : ℕ) → KeptRun m i end (length times) → left end ≡ left (end + 1)
-  past-count i end r =
-      by-test (ltb end (length times))
-      (λ h. let b : end < length times = ltb-true _ _ h in count-out m end (length times) b (r .stop b))
-      (λ h. let b : length times ≤ end = ltb-false _ _ h in count-none m end (length times) b ∙ sym (count-none m (end + 1) (length times) (omega arith)))
-
-  run-count : (i end : ℕ) → KeptRun m i end (length times) → left i ≡ (end - i) + left (end + 1)
-  run-count i end r =
-      let o = r .onward in let w = r .within in
-      let z : length times - i ≡ (end - i) + (length times - end) = omega arith in
-      let e : i + (end - i) ≡ end = omega arith in
-      ap (countKept m i) z ∙ count-run m i (end - i) (length times - end) (λ k h j. r .stay k (omega arith) j)
-      ∙ ap (λ (x : ℕ). (end - i) + countKept m x (length times - end)) e ∙ ap (λ (x : ℕ). (end - i) + x) (past-count i end r)
-
-  run-pick : (f : ℕ → ℕ) (i end : ℕ) → KeptRun m i end (length times) → pickAt m f i (length times - i) ≡ runOf f i (end - i) ++ pickAt m f (end + 1) (length times - (end + 1))
-  run-pick f i end r =
-      let o = r .onward in let w = r .within in
-      let z : length times - i ≡ (end - i) + (length times - end) = omega arith in
-      let e : i + (end - i) ≡ end = omega arith in
-      ap (pickAt m f i) z ∙ pick-run m f i (end - i) (length times - end) (λ k h j. r .stay k (omega arith) j)
-      ∙ ap (λ (x : ℕ). runOf f i (end - i) ++ pickAt m f x (length times - end)) e ∙ ap (λ (x : List ℕ). runOf f i (end - i) ++ x) (past-run f i end r)
-
-  pub leaving-room : (n : ℕ) (out : List ℕ) (at i end : ℕ) → Leaving n out at i → KeptRun m i end (length times) → at + (end - i) ≤ n
-  leaving-room n out at i end w r = let p = w .place in let q = run-count i end r in omega arith
-
-  pub leaving-run : (n : ℕ) (out : List ℕ) (at i end : ℕ) (ts ds : List ℕ) → Leaving n out at i → KeptRun m i end (length times)
-      → ts ≡ runOf time i (end - i) → ds ≡ runOf diff i (end - i)
-      → Leaving n (sets (sets (sets out at ts) (n + at) (countUp at (length ts))) (n + n + at) ds) (at + (end - i)) (end + 1)
-  leaving-run n out at i end ts ds w r et ed =
-      let k : ℕ = end - i in
-      let I : List ℕ = pickAt m time (end + 1) (length times - (end + 1)) in
-      let E : List ℕ = countUp (at + (end - i)) (left (end + 1)) in
-      let D : List ℕ = pickAt m diff (end + 1) (length times - (end + 1)) in
-      let ci : left i ≡ (end - i) + left (end + 1) = run-count i end r in
-      let li : length I ≡ left (end + 1) = length-pickAt m time (end + 1) (length times - (end + 1)) in
-      let le : length E ≡ left (end + 1) = length-countUp (at + (end - i)) (left (end + 1)) in
-      let p = w .place in
-      let lt : end - i ≡ length ts = sym (ap length et ∙ length-run time i (end - i)) in
-      let ld : end - i ≡ length ds = sym (ap length ed ∙ length-run diff i (end - i)) in
-      let lc : end - i ≡ length (countUp at (length ts)) = lt ∙ sym (length-countUp at (length ts)) in
-      record {
-        place = omega arith;
-        room = length-sets (sets (sets out at ts) (n + at) (countUp at (length ts))) (n + n + at) ds ∙ length-sets (sets out at ts) (n + at) (countUp at (length ts)) ∙ length-sets out at ts ∙ w .room;
         whole =
-            three out ts (countUp at (length ts)) ds I E D at n (end - i) lt lc ld (omega arith) (omega arith)
-            ∙ (λ j. sets (sets (sets out at (et j ++ I)) (n + at) (countUp at (sym lt j) ++ E)) (n + n + at) (ed j ++ D))
-            ∙ sym (ap (λ (l : List ℕ). sets (sets (sets out at l) (n + at) (countUp at (left i))) (n + n + at) (pickAt m diff i (length times - i))) (run-pick time i end r)
-            ∙ ap (λ (l : List ℕ). sets (sets (sets out at (runOf time i (end - i) ++ I)) (n + at) l) (n + n + at) (pickAt m diff i (length times - i))) (ap (countUp at) ci ∙ countUp-run at (end - i) (left (end + 1)))
-            ∙ ap (λ (l : List ℕ). sets (sets (sets out at (runOf time i (end - i) ++ I)) (n + at) (countUp at (end - i) ++ E)) (n + n + at) l) (run-pick diff i end r))
-            ∙ w .whole;
+            simp z
+            (sym (sets-sets (countUp 0 n) D (sets out 0 I) n (n + n + 0) (omega arith))
+            ∙ fill-three I (countUp 0 n) D out n (n + n + 0) (omega arith) (omega arith) (omega arith)
+            ∙ ap (λ (k : ℕ). I ++ (countUp 0 k ++ D)) e);
       }
 
-  -- the run as it is cut out
-  pub cut-times : (i end : ℕ) → KeptRun m i end (length times) → take (end - i) (drop i times) ≡ runOf time i (end - i)
-  cut-times i end r = let o = r .onward in let w = r .within in sym (run-list times i (end - i) (omega arith))
+  pub leaving-within : (n : ℕ) (out : List ℕ) (at i : ℕ) → Leaving n out at i → at < n → i < length times
+  leaving-within n out at i w h =
+      by-test (ltb i (length times)) (λ k. ltb-true _ _ k)
+      (λ k. let p = w .place in let z = count-none m i (length times) (ltb-false _ _ k) in absurd (omega arith))
 
-  pub cut-diffs : (i end lower : ℕ) → KeptRun m i end (length times) → i < end → EndsByOne diffEnds → EndsWithin diffEnds (length diffs)
-      → ((k : ℕ) → m k ≡ true → hasDiff diffEnds k ≡ true) → lower ≡ startOf diffEnds i
-      → (lower + (end - i) ≤ length diffs) × (take (lower + (end - i) - lower) (drop lower diffs) ≡ runOf diff i (end - i))
-  cut-diffs i end lower r h one within has e =
-      let z : i + (end - i) ≡ end = omega arith in
-      let y : i + suc (end - i - 1) ≡ end = omega arith in
-      let w : startOf diffEnds i + suc (end - i - 1) ≤ length diffs = run-within diffEnds i (end - i - 1) (length diffs) one within (λ k p q. has k (r .stay k (omega arith) q)) in
-      let q : lower + (end - i) - lower ≡ end - i = omega arith in (
-        omega arith,
-        (λ j. take (q j) (drop (e j) diffs)) ∙ sym (run-diffs diffEnds diffs i (end - i) one (λ k p s. has k (r .stay k (omega arith) s)) (omega arith)),
-      )
+  -- a diff is there to be read while one is left
+  pub leaving-diff : (n : ℕ) (out : List ℕ) (at i : ℕ) → Leaving n out at i → at < n → length diffEnds ≡ length times → EndsStep diffEnds → EndsWithin diffEnds (length diffs)
+      → ((k : ℕ) → m k ≡ true → hasDiff diffEnds k ≡ true) → startOf diffEnds i < length diffs
+  leaving-diff n out at i w h rows s b has =
+      let p = w .place in
+      let l = leaving-within n out at i w h in
+      let v = some-left m i (length times - i) (omega arith) in
+      let z : i + (v .0 - i) ≡ v .0 = omega (arith, v .1 .0) in
+      let r : startOf diffEnds i ≤ startOf diffEnds (v .0) = (let g = starts-rise diffEnds i (v .0 - i) s (omega (arith, v .1 .1 .0)) in let y = ap (startOf diffEnds) z in omega arith) in
+      let q : startOf diffEnds (v .0) < length diffs = b (v .0) (has (v .0) (v .1 .1 .1)) in
+      omega arith
 
-  pub leaving-none : (n : ℕ) (out : List ℕ) (at i end : ℕ) → Leaving n out at i → KeptRun m i end (length times) → end ≤ i → Leaving n out at (end + 1)
-  leaving-none n out at i end v r h =
-      let o = r .onward in
-      let e : i ≡ end = omega arith in
-      let w : Leaving n out at end = rw e at v in
-      let ci : left end ≡ left (end + 1) = past-count i end r in
-      record {
-        place = ap (λ (j : ℕ). at + j) (sym ci) ∙ w .place;
-        room = w .room;
-        whole = sym (λ j. sets (sets (sets out at (past-run time i end r j)) (n + at) (countUp at (ci j))) (n + n + at) (past-run diff i end r j)) ∙ w .whole;
-      }
+  -- a time and its diff are written; they count where the time stays
+  leaving-turn : (n : ℕ) (out : List ℕ) (at i : ℕ) → Leaving n out at i → at < n
+      → Leaving n (set (set out at (time i)) (n + n + at) (diff i)) (at + bit (m i)) (i + 1)
+  unfolding bit
+  leaving-turn n out at i w h =
+      let l : i < length times = leaving-within n out at i w h in
+      let o : List ℕ = set (set out at (time i)) (n + n + at) (diff i) in
+      let r : length o ≡ n + (n + n) = length-set (set out at (time i)) (n + n + at) (diff i) ∙ length-set out at (time i) ∙ w .room in
+      let I : List ℕ = rest time (i + 1) in
+      let D : List ℕ = rest diff (i + 1) in
+      let li : length I ≡ left (i + 1) = rest-length time (i + 1) in
+      let ld : length D ≡ left (i + 1) = rest-length diff (i + 1) in
+      let p = w .place in
+      by-test (m i)
+      (λ k.
+      let c : left i ≡ suc (left (i + 1)) = count-in m i (length times) l k in
+      let s1 : at + 1 ≡ suc at = omega arith in
+      let s2 : n + n + suc at ≡ suc (n + n + at) = omega arith in
+      let ti : rest time i ≡ time i ∷ I = pick-in m time i (length times) l k in
+      let td : rest diff i ≡ diff i ∷ D = pick-in m diff i (length times) l k in
+      simp k
+      (record {
+        place = omega arith;
+        room = r;
+        whole =
+            simp (s1, s2)
+            (ap (λ (x : List ℕ). sets (sets x (suc (n + n + at)) D) n (countUp 0 n)) (sym (set-sets I (set out at (time i)) (suc at) (n + n + at) (diff i) (omega arith)))
+            ∙ sym (λ j. sets (sets (sets out at (ti j)) (n + n + at) (td j)) n (countUp 0 n))
+            ∙ w .whole);
+      }))
+      (λ k.
+      let c : left i ≡ left (i + 1) = count-out m i (length times) l k in
+      let s1 : at + 0 ≡ at = omega arith in
+      let ti : rest time i ≡ I = pick-out m time i (length times) l k in
+      let td : rest diff i ≡ D = pick-out m diff i (length times) l k in
+      simp k
+      (record {
+        place = omega arith;
+        room = r;
+        whole =
+            simp s1
+            (ap (λ (x : List ℕ). sets (sets x (n + n + at) D) n (countUp 0 n)) (sym (set-sets I (set out at (time i)) at (n + n + at) (diff i) (omega arith)))
+            ∙ ap (λ (x : List ℕ). sets x n (countUp 0 n)) (set-over D (sets (set out at (time i)) at I) (n + n + at) (diff i) (omega arith))
+            ∙ ap (λ (x : List ℕ). sets (sets x (n + n + at) D) n (countUp 0 n)) (set-over I out at (time i) (omega arith))
+            ∙ sym (λ j. sets (sets (sets out at (ti j)) (n + n + at) (td j)) n (countUp 0 n))
+            ∙ w .whole);
+      }))
 
-  pub leaving-end : (n : ℕ) (out : List ℕ) (at i : ℕ) → Leaving n out at i → length times ≤ i → out ≡ leavesOut m times diffEnds diffs
-  unfolding countUp
+  pub leaving-next : (n : ℕ) (out : List ℕ) (at i lower b : ℕ) → Leaving n out at i → at < n → lower ≡ startOf diffEnds i → b ≡ bit (m i)
+      → Leaving n (set (set out at (time i)) (n + n + at) (getD diffs lower 0)) (at + b) (i + 1)
+  leaving-next n out at i lower b w h e q = rw (e, q) (leaving-turn n out at i w h)
+
+  pub leaving-end : (n : ℕ) (out : List ℕ) (at i : ℕ) → Leaving n out at i → n ≤ at → sets out n (countUp 0 n) ≡ leavesOut m times diffEnds diffs
   leaving-end n out at i w h =
-      simp (pick-none m time i (length times) h, pick-none m diff i (length times) h, count-none m i (length times) h) at (w .whole)
+      let p = w .place in
+      let z : (f : ℕ → ℕ) → rest f i ≡ [] = λ f. no-length (rest f i) (let l = rest-length f i in omega arith) in
+      simp (z time, z diff) at (w .whole)
 
 -- the leaves' words: a time, an end and a diff of each
 pub length-leavesOut : (m : ℕ → Bool) (times diffEnds diffs : List ℕ) (n : ℕ) → n ≡ countKept m 0 (length times) → length (leavesOut m times diffEnds diffs) ≡ n + (n + n)
@@ -263,3 +241,7 @@ length-leavesOut m times diffEnds diffs n h =
     let l1 : length (I ++ (E ++ D)) ≡ length I + length (E ++ D) = length-append I (E ++ D) in
     let l2 : length (E ++ D) ≡ length E + length D = length-append E D in
     omega arith
+
+-- bodies that belong together, and corners in order, are what the test of a time asks for
+pub ready : (keys valEnds vals timeEnds times diffEnds diffs corners : List ℕ) → Bodies keys valEnds vals timeEnds times diffEnds diffs → ordered corners ≡ true → Ready times corners diffEnds
+ready keys valEnds vals timeEnds times diffEnds diffs corners b o = let r = b .timeRows in record { few = omega arith; steps = b .diffsStep; stairs = o }

@@ -4,6 +4,7 @@ pub mod Groups
 pub mod Filtered
 pub mod Stairs
 pub mod Counts
+pub mod Steps
 pub mod Stores
 pub mod Writing
 pub mod Leaving

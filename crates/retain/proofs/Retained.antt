@@ -19,7 +19,7 @@ use Rattle.laws.proofs.Tests.{by-test, and-left, and-right, and-both}
 use Rattle.laws.proofs.OneChunk.{front-is-chunk, bodies-in}
 use Rattle.laws.proofs.Layers.{Seven}
 use Rattle.laws.proofs.Frame.{parts}
-use Rattle.retain.specs.Layers.{countKept, pick, pickAt, countUp, nodes, itemOf, endOf, listKept, hasDiff, nodesOut, leavesOut, EndsWithin, EndsByOne, ListsLeft, Bodies, Left, layersOut}
+use Rattle.retain.specs.Layers.{countKept, pick, pickAt, countUp, nodes, itemOf, endOf, listKept, hasDiff, nodesOut, leavesOut, EndsWithin, EndsStep, ListsLeft, Bodies, Left, layersOut}
 use Rattle.retain.specs.declared.Keep.{Keep}
 use Rattle.retain.specs.Keep.{keepsAt, timeKept, retainedOf}
 use Rattle.retain.proofs.Filtered.{picked-keys, picked-valEnds, picked-vals, picked-timeEnds, pickAt-list, pickAt-diffs, picked-stands, length-pick, diffEnds-up, keep-all, nodes-pick, picked-few}
@@ -70,19 +70,21 @@ step-most low [] top i h = omega arith
 step-most low (e ∷ ends) top zero h = step-low e ends top (and-right (eqb e low || eqb e (suc low)) _ h)
 step-most low (e ∷ ends) top (suc i) h = step-most e ends top i (and-right (eqb e low || eqb e (suc low)) _ h)
 
--- and one that is higher is one higher
-step-one : (low : ℕ) (ends : List ℕ) (top i : ℕ) → endsStep low ends top ≡ true → startOf (low ∷ ends) (suc i) < getD ends i 0 → getD ends i 0 ≡ suc (startOf (low ∷ ends) (suc i))
+-- and each is the one before it or one more
+step-at : (low : ℕ) (ends : List ℕ) (top i : ℕ) → endsStep low ends top ≡ true → i < length ends
+    → (getD (low ∷ ends) i 0 ≤ getD ends i 0) × (getD ends i 0 ≤ suc (getD (low ∷ ends) i 0))
 unfolding endsStep
-step-one low [] top i h k = absurd (omega arith)
-step-one low (e ∷ ends) top zero h k =
+step-at low [] top i h k = absurd (omega arith)
+step-at low (e ∷ ends) top zero h k =
     by-test (eqb e low)
-    (λ m. let q : e ≡ low = eqb-true _ _ m in absurd (omega arith))
-    (λ m. let o : (eqb e low || eqb e (suc low)) ≡ true = and-left _ _ h in eqb-true _ _ (simp m at o))
-step-one low (e ∷ ends) top (suc i) h k = step-one e ends top i (and-right (eqb e low || eqb e (suc low)) _ h) k
+    (λ m. let q : e ≡ low = eqb-true _ _ m in (omega arith, omega arith))
+    (λ m. let o : (eqb e low || eqb e (suc low)) ≡ true = and-left _ _ h in
+    let q : e ≡ suc low = eqb-true _ _ (simp m at o) in (omega arith, omega arith))
+step-at low (e ∷ ends) top (suc i) h k = step-at e ends top i (and-right (eqb e low || eqb e (suc low)) _ h) (omega arith)
 
-step-by-one : (ends : List ℕ) (top : ℕ) → endsStep 0 ends top ≡ true → EndsByOne ends
-step-by-one ends top h zero k = step-one 0 ends top 0 h (ltb-true _ _ k)
-step-by-one ends top h (suc i) k = step-one 0 ends top (suc i) h (ltb-true _ _ k)
+ends-step : (ends : List ℕ) (top : ℕ) → endsStep 0 ends top ≡ true → EndsStep ends
+ends-step ends top h zero k = step-at 0 ends top 0 h k
+ends-step ends top h (suc i) k = step-at 0 ends top (suc i) h k
 
 -- the places of the bodies rise within so many words, and are few
 pub record Cuts (found : Contents) (n : ℕ) : Type 0 where
@@ -218,7 +220,7 @@ module _ (w : List ℕ) (f : wellFormed w ≡ true) (leaf : ℕ → Bool) where
         valEndsRise = val-ends-rise;
         timeEndsRise = time-ends-rise;
         diffsWithin = diffs-within;
-        diffsByOne = step-by-one (diffEndBody w) (nd w) (parts w f .diffEndsStep);
+        diffsStep = ends-step (diffEndBody w) (nd w) (parts w f .diffEndsStep);
       }
 
   -- as many entries stand as there are diffs

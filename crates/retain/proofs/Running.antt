@@ -10,11 +10,12 @@ use lib.ListN.{length, take, drop, getD, replicate, length-append, length-replic
 use lib.Seq.{drop-cons, take-append-seam}
 use borrow.Author.Tests.{le-leb}
 use Rattle.chunk.specs.Entry.{keep}
-use Rattle.laws.proofs.Tests.{true-not-false}
+use Rattle.laws.proofs.Tests.{by-test, true-not-false}
 use Rattle.retain.specs.declared.Corners.{Corners}
 use Rattle.retain.specs.declared.Kept.{Kept}
 use Rattle.retain.specs.declared.Frontier.{Frontier}
 use Rattle.retain.specs.Frontier.{any, isOpen, ordered, leastOf, places}
+use Rattle.retain.specs.Layers.{bit}
 use Rattle.retain.specs.Found.{Standing, Joined, joined, cornersOf, cornersAs, frontierWith, keptBy}
 use Rattle.retain.proofs.Joining.{member, below-trans, joined-or, pass-over, put-among, joined-ordered, ordered-least}
 use Rattle.chunk.specs.Time.{atOrBelow}
@@ -69,6 +70,13 @@ module _ (upper times : List ℕ) where
   opened-out number i w h o =
       let f = w .few in let q = w .counted in let e : length (rest i) ≡ length (rest (i + 1)) = ap length (rest-out i h o) in
       record { onward = omega arith; few = omega arith; counted = omega arith }
+
+  pub opened-bit : (number i b : ℕ) → Opened number i → i < length times → b ≡ bit (isOpen upper (getD times i 0)) → Opened (number + b) (i + 1)
+  unfolding bit
+  opened-bit number i b w h e =
+      by-test (isOpen upper (getD times i 0))
+      (λ k. let q : b ≡ 1 = simp k at e in rw q (opened-in number i w h k))
+      (λ k. let q : number + b ≡ number = (let z : b ≡ 0 = simp k at e in omega arith) in rw q (opened-out number i w h k))
 
   pub opened-end : (number i : ℕ) → Opened number i → length times ≤ i → number ≡ length (keep (isOpen upper) times)
   opened-end number i w h = let q = w .counted in let e : length (rest i) ≡ 0 = ap length (rest-end i h) in omega arith

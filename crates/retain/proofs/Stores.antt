@@ -1,10 +1,10 @@
 -- Bodies that stand one after the other in a part of the output, filled side by side.
-use Prim.Native.Nat.{ℕ, suc, _+_, _≤_}
+use Prim.Native.Nat.{ℕ, suc, _+_, _<_, _≤_}
 use mathlib.Core.Path.{_≡_, refl, _∙_, ap}
 use mathlib.Core.List.{List, [], _∷_, _++_, append-nil}
 use native.Mathlib.Omega.{arith}
 use lib.ListN.{length, drop, set, length-drop, drop-of-length-le}
-use lib.Seq.{sets, sets-eq, set-comm}
+use lib.Seq.{sets, sets-eq, set-comm, set-set}
 
 -- a store past a run, or before it, and the run
 pub set-sets : (vs l : List ℕ) (i k a : ℕ) → i + length vs ≤ k → set (sets l i vs) k a ≡ sets (set l k a) i vs
@@ -12,6 +12,11 @@ set-sets [] l i k a h = refl
 set-sets (v ∷ vs) l i k a h =
     set-sets vs (set l i v) (suc i) k a (omega arith)
     ∙ ap (λ (x : List ℕ). sets x (suc i) vs) (set-comm l i k v a (λ e. omega arith))
+
+-- a store and a run over it
+pub set-over : (vs l : List ℕ) (i a : ℕ) → 0 < length vs → sets (set l i a) i vs ≡ sets l i vs
+set-over [] l i a h = absurd (omega arith)
+set-over (v ∷ vs) l i a h = ap (λ (x : List ℕ). sets x (suc i) vs) (set-set l i a v)
 
 -- two runs in either order, and one behind the other as one
 pub sets-sets : (us vs l : List ℕ) (i k : ℕ) → i + length us ≤ k → sets (sets l i us) k vs ≡ sets (sets l k vs) i us

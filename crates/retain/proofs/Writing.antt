@@ -8,12 +8,13 @@ use native.Mathlib.Numerals.{add-one}
 use lib.Dec.{ltb}
 use lib.ListN.{length, take, drop, getD, set, length-set, length-append, drop-of-length-le}
 use lib.Seq.{sets, drop-cons}
-use borrow.Author.Tests.{lt-ltb, le-ltb, ltb-true}
+use borrow.Author.Tests.{lt-ltb, le-ltb, ltb-true, ltb-false}
 use Rattle.chunk.specs.Words.{risesFrom}
+use Rattle.laws.proofs.Lists.{no-length}
 use Rattle.laws.proofs.Tests.{by-test, and-left, and-right}
 use Rattle.retain.specs.Layers.{countKept, nodes, itemOf, endOf, nodesOut}
 use Rattle.retain.proofs.Counts.{count-most}
-use Rattle.retain.proofs.Stores.{set-sets, fill-two}
+use Rattle.retain.proofs.Stores.{set-sets, set-over, fill-two}
 
 -- as many items as ends
 nodes-lengths : {A B C : Type 0} (m : ℕ → Bool) (g : A → ℕ → B) (h : A → ℕ → C) (i c : ℕ) (xs : List A) (ends : List ℕ)
@@ -72,12 +73,6 @@ module _ (m : ℕ → Bool) (items ends : List ℕ) (rows : length items ≡ len
       let b = count-most m start (getD ends i 0 - start) in
       let u = w .under in omega arith
 
-  pub writing-room : (n : ℕ) (out : List ℕ) (start total at i left : ℕ) → Writing n out start total at i → i < length items
-      → left ≡ countKept m start (getD ends i 0 - start) → 0 < left → at < n
-  writing-room n out start total at i left w h q k =
-      let t : rest itemOf start total i ≡ getD items i 0 ∷ rest itemOf (getD ends i 0) (total + left) (i + 1) = turn itemOf start total i left h q ∙ simp (lt-ltb _ _ k) in
-      let p = ap length t in let s = w .place in omega arith
-
   pub writing-put : (n : ℕ) (out : List ℕ) (start total at i left : ℕ) → Writing n out start total at i → i < length items
       → left ≡ countKept m start (getD ends i 0 - start) → 0 < left
       → Writing n (set (set out at (getD items i 0)) (n + at) (total + left)) (getD ends i 0) (total + left) (at + 1) (i + 1)
@@ -104,30 +99,47 @@ module _ (m : ℕ → Bool) (items ends : List ℕ) (rows : length items ≡ len
             ∙ w .whole);
       }
 
-  pub writing-skip : (n : ℕ) (out : List ℕ) (start total at i left : ℕ) → Writing n out start total at i → i < length items
-      → left ≡ countKept m start (getD ends i 0 - start) → left ≤ 0 → Writing n out (getD ends i 0) total at (i + 1)
-  writing-skip n out start total at i left w h q k =
+  pub writing-skip : (n : ℕ) (out : List ℕ) (start total at i left : ℕ) → Writing n out start total at i → i < length items → at < n
+      → left ≡ countKept m start (getD ends i 0 - start) → left ≤ 0
+      → Writing n (set (set out at (getD items i 0)) (n + at) (total + left)) (getD ends i 0) (total + left) at (i + 1)
+  writing-skip n out start total at i left w h g q k =
       let e : ℕ = getD ends i 0 in
+      let x : ℕ = getD items i 0 in
       let z : left ≡ 0 = omega arith in
-      let y : total + 0 ≡ total = omega arith in
-      let ti : rest itemOf start total i ≡ rest itemOf e total (i + 1) = turn itemOf start total i left h q ∙ simp (z, y) in
-      let te : rest endOf start total i ≡ rest endOf e total (i + 1) = turn endOf start total i left h q ∙ simp (z, y) in
+      let I : List ℕ = rest itemOf e (total + left) (i + 1) in
+      let E : List ℕ = rest endOf e (total + left) (i + 1) in
+      let ti : rest itemOf start total i ≡ I = turn itemOf start total i left h q ∙ simp (le-ltb 0 left k) in
+      let te : rest endOf start total i ≡ E = turn endOf start total i left h q ∙ simp (le-ltb 0 left k) in
+      let p : at + length I ≡ n = ap (λ (l : List ℕ). at + length l) (sym ti) ∙ w .place in
+      let l : length I ≡ length E = nodes-lengths m itemOf endOf e (total + left) (drop (i + 1) items) (drop (i + 1) ends) in
       let b = next-above start i h (w .rise) in let u = w .under in
       record {
         rise = b .1;
         under = omega (arith, b .0);
-        place = ap (λ (l : List ℕ). at + length l) (sym ti) ∙ w .place;
-        room = w .room;
+        place = p;
+        room = length-set (set out at x) (n + at) (total + left) ∙ length-set out at x ∙ w .room;
         whole =
-            sym (ap (λ (l : List ℕ). sets (sets out at l) (n + at) (rest endOf start total i)) ti
-            ∙ ap (λ (l : List ℕ). sets (sets out at (rest itemOf e total (i + 1))) (n + at) l) te)
+            ap (λ (y : List ℕ). sets y (n + at) E) (sym (set-sets I (set out at x) at (n + at) (total + left) (omega arith)))
+            ∙ set-over E (sets (set out at x) at I) (n + at) (total + left) (omega arith)
+            ∙ ap (λ (y : List ℕ). sets y (n + at) E) (set-over I out at x (omega arith))
+            ∙ sym (λ j. sets (sets out at (ti j)) (n + at) (te j))
             ∙ w .whole;
       }
 
-  pub writing-end : (n : ℕ) (out : List ℕ) (start total at i : ℕ) → Writing n out start total at i → length items ≤ i → out ≡ nodesOut m items ends
+  -- while some are left to write there is a list to look at
+  pub writing-within : (n : ℕ) (out : List ℕ) (start total at i : ℕ) → Writing n out start total at i → at < n → i < length items
   unfolding nodes
+  writing-within n out start total at i w h =
+      by-test (ltb i (length items)) (λ k. ltb-true _ _ k)
+      (λ k. let p : at + 0 ≡ n = simp (drop-of-length-le items (ltb-false _ _ k)) at (w .place) in absurd (omega arith))
+
+  pub writing-end : (n : ℕ) (out : List ℕ) (start total at i : ℕ) → Writing n out start total at i → n ≤ at → out ≡ nodesOut m items ends
   writing-end n out start total at i w h =
-      simp (drop-of-length-le items h) at (w .whole)
+      let p = w .place in
+      let l = nodes-lengths m itemOf endOf start total (drop i items) (drop i ends) in
+      let zi : rest itemOf start total i ≡ [] = no-length (rest itemOf start total i) (omega arith) in
+      let ze : rest endOf start total i ≡ [] = no-length (rest endOf start total i) (omega arith) in
+      simp (zi, ze) at (w .whole)
 
 -- a layer's words: as many items as ends
 pub length-nodesOut : (m : ℕ → Bool) (items ends : List ℕ) (n : ℕ) → n ≡ length (nodes m itemOf 0 0 items ends) → length (nodesOut m items ends) ≡ n + n

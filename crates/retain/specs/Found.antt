@@ -52,6 +52,12 @@ pub record PartedAt (corners : List ℕ) (t n : ℕ) : Type 0 where
   pub early : (k : ℕ) → k < n → ignition (getD corners k 0) ≤ ignition t
   pub late : (k : ℕ) → n ≤ k → k < length corners → ignition t < ignition (getD corners k 0)
 
+-- the last corner with an ignition at or below a time's, or the first one
+pub record LastAt (corners : List ℕ) (t n : ℕ) : Type 0 where
+  pub within : n < length corners
+  pub early : 0 < n → ignition (getD corners n 0) ≤ ignition t
+  pub late : (k : ℕ) → n < k → k < length corners → ignition t < ignition (getD corners k 0)
+
 -- earlier in ignition and higher in tick
 pub record Stair (a b : ℕ) : Type 0 where
   pub right : ignition a < ignition b

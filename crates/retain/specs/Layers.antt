@@ -8,7 +8,11 @@ use lib.Dec.{leb, ltb}
 use lib.ListN.{length, getD}
 use Rattle.chunk.specs.Words.{risesFrom, limit, tableSize}
 use Rattle.chunk.specs.Contents.{startOf, tableOf}
-use Rattle.retain.specs.Frontier.{isOpen}
+use Rattle.retain.specs.Frontier.{ordered}
+
+-- a test as a number
+unfoldable pub bit : Bool → ℕ
+bit b = cond b 1 0
 
 -- how many of the n items from index i on pass
 unfoldable pub countKept : (ℕ → Bool) → ℕ → ℕ → ℕ
@@ -77,18 +81,17 @@ leavesOut m times diffEnds diffs =
 abbrev pub EndsWithin : List ℕ → ℕ → Type 0
 EndsWithin ends n = (i : ℕ) → hasDiff ends i ≡ true → startOf ends i < n
 
--- a list that has an item has one
-abbrev pub EndsByOne : List ℕ → Type 0
-EndsByOne ends = (i : ℕ) → hasDiff ends i ≡ true → getD ends i 0 ≡ suc (startOf ends i)
+-- each end is the one before it or one more
+abbrev pub EndsStep : List ℕ → Type 0
+EndsStep ends = (i : ℕ) → i < length ends → (startOf ends i ≤ getD ends i 0) × (getD ends i 0 ≤ suc (startOf ends i))
 
--- a run: the items from one index to another stay, and there one does not, or they end
-pub record KeptRun (m : ℕ → Bool) (from end top : ℕ) : Type 0 where
-  pub onward : from ≤ end
-  pub within : end ≤ top
-  pub stay : (k : ℕ) → k < end → from ≤ k → m k ≡ true
-  pub stop : end < top → m end ≡ false
+-- what the test of a time asks for: a time for each end, ends that step, and corners in order
+pub record Ready (times corners diffEnds : List ℕ) : Type 0 where
+  pub few : length diffEnds ≤ length times
+  pub steps : EndsStep diffEnds
+  pub stairs : ordered corners ≡ true
 
--- seven bodies that belong together: as many ends as items above them, ends that rise, and diffs where the diff ends say, one each
+-- seven bodies that belong together: as many ends as items above them, ends that rise, and diff ends that step, within the diffs
 pub record Bodies (keys valEnds vals timeEnds times diffEnds diffs : List ℕ) : Type 0 where
   pub keyRows : length keys ≡ length valEnds
   pub valRows : length vals ≡ length timeEnds
@@ -96,7 +99,7 @@ pub record Bodies (keys valEnds vals timeEnds times diffEnds diffs : List ℕ) :
   pub valEndsRise : risesFrom 0 valEnds ≡ true
   pub timeEndsRise : risesFrom 0 timeEnds ≡ true
   pub diffsWithin : EndsWithin diffEnds (length diffs)
-  pub diffsByOne : EndsByOne diffEnds
+  pub diffsStep : EndsStep diffEnds
 
 -- what is left of each layer, within the limit, and room for its chunk
 pub record Left (m : ℕ → Bool) (keys valEnds vals timeEnds times : List ℕ) (k v t room : ℕ) : Type 0 where

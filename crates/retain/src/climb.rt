@@ -6,7 +6,7 @@ ghost use Prim.Native.Nat.{ℕ, _+_, _-_, _≤_, _<_};
 ghost use lib.ListN.{length, take, drop, replicate};
 ghost use Rattle.retain.specs.Frontier.{isOpen, ordered};
 ghost use Rattle.retain.specs.Found.{Before, Passed, Standing, Joined};
-use crate::stay::place_of;
+use crate::look::place_of;
 
 // Where a time belongs that no corner is at or below: behind the corners of a lower ignition.
 fn first_at(corners: &[u64], t: u64) -> usize

@@ -7,22 +7,24 @@ ghost use Rattle.retain.specs.Found.{emptyFrontier, keptBy};
 ghost use Rattle.chunk.specs.Entry.{keep};
 ghost use Rattle.retain.specs.Answer.{verdictBy, refusedBy, Parted, Extraction};
 ghost use Rattle.retain.specs.Keep.{keepsAt, timeKept, below, retainedOf};
-ghost use Rattle.retain.specs.Layers.{countKept, listKept, nodes, itemOf, nodesOut, leavesOut, EndsWithin, EndsByOne, Bodies, Left, layersOut};
+ghost use Rattle.retain.specs.Layers.{countKept, listKept, nodes, itemOf, nodesOut, leavesOut, EndsWithin, Ready, Bodies, Left, layersOut};
 ghost use Rattle.chunk.specs.Words.{risesFrom, wellFormed, settled, size, over, entries};
 ghost use Rattle.chunk.specs.Contents.{Placed};
 ghost use Rattle.chunk.specs.Bodies.{chunkOf};
 ghost use Rattle.retain.specs.Cut.{filterNumber, filterOut, Split};
 use chunk::Contents;
 use climb::add_corner;
+use look::count_open;
+use look::is_open;
 use one_by_one::scan_corners;
 use runs::copy;
-use runs::write_run;
+use runs::count_up;
 use stay::count_below;
 use stay::count_lists;
-use stay::is_open;
-use stay::run_end;
+use stay::kept_bit;
 
 mod climb;
+mod look;
 mod one_by_one;
 mod runs;
 mod stay;
@@ -48,7 +50,8 @@ pub struct Lists {
     pub vals: usize,
 }
 
-// Writes a layer's items that have a list left, and after them the ends of those lists: the count of what stays up to each.
+// Writes a layer's items that have a list left, and after them the ends of those lists: the count of what stays up to each. What is written of
+// a list that is left empty is written over by the next that isn't.
 fn write_nodes(
     level: Level,
     keep: Keep,
@@ -61,7 +64,7 @@ fn write_nodes(
     n: usize,
     out: &mut [u64],
 )
-    requires { ⌜ (length (now «diff_ends») ≤ length (now times)) × (ordered (now corners) ≡ true) ⌝ }
+    requires { ⌜ Ready (now times) (now corners) (now «diff_ends») ⌝ }
     requires { ⌜ (length (now items) ≡ length (now ends)) × (risesFrom 0 (now ends) ≡ true) ⌝ }
     requires { ⌜ (n ≡ length (nodes (below level (timeKept keep (now times) (now corners) (now «diff_ends»)) (now «time_ends»)) itemOf 0 0 (now items) (now ends))) × (length (now out) ≡ n + n) ⌝ }
     ensures { λ _. ⌜ now (out .exit) ≡ nodesOut (below level (timeKept keep (now (times .entry)) (now (corners .entry)) (now («diff_ends» .entry))) (now («time_ends» .entry))) (now (items .entry)) (now (ends .entry)) ⌝ }
@@ -70,7 +73,7 @@ fn write_nodes(
     let mut total = 0;
     let mut at = 0;
     let mut i = 0;
-    while i < items.len() {
+    while at < n {
         let end = ends[i] as usize;
         let left = count_below(
             level,
@@ -82,10 +85,10 @@ fn write_nodes(
             start,
             end,
         );
+        total += left;
+        out[at] = items[i];
+        out[n + at] = total as u64;
         if 0 < left {
-            total += left;
-            out[at] = items[i];
-            out[n + at] = total as u64;
             at += 1;
         }
         start = end;
@@ -93,7 +96,8 @@ fn write_nodes(
     }
 }
 
-// Writes the times that stay, after them the ends of their lists, and after these their diffs, one each: run by run.
+// Writes the times that stay, after them the ends of their lists, and after these their diffs, one each. What is written of a time that goes is
+// written over by the next that stays.
 fn write_leaves(
     keep: Keep,
     times: &[u64],
@@ -103,24 +107,23 @@ fn write_leaves(
     n: usize,
     out: &mut [u64],
 )
-    requires { ⌜ (length (now «diff_ends») ≡ length (now times)) × (ordered (now corners) ≡ true) ⌝ }
-    requires { ⌜ EndsWithin (now «diff_ends») (length (now diffs)) × EndsByOne (now «diff_ends») ⌝ }
+    requires { ⌜ Ready (now times) (now corners) (now «diff_ends») × (length (now «diff_ends») ≡ length (now times)) ⌝ }
+    requires { ⌜ EndsWithin (now «diff_ends») (length (now diffs)) ⌝ }
     requires { ⌜ (n ≡ countKept (timeKept keep (now times) (now corners) (now «diff_ends»)) 0 (length (now times))) × (length (now out) ≡ n + (n + n)) ⌝ }
     ensures { λ _. ⌜ now (out .exit) ≡ leavesOut (timeKept keep (now (times .entry)) (now (corners .entry)) (now («diff_ends» .entry))) (now (times .entry)) (now («diff_ends» .entry)) (now (diffs .entry)) ⌝ }
 {
     let mut at = 0;
     let mut i = 0;
-    while i < times.len() {
-        let end = run_end(keep, times, corners, diff_ends, i);
-        if i < end {
-            let list = chunk::child_range(diff_ends, i);
-            let lower = list.lower;
-            let upper = lower + (end - i);
-            write_run(&times[i..end], &diffs[lower..upper], n, at, out);
-            at += end - i;
-        }
-        i = end + 1;
+    while at < n {
+        let list = chunk::child_range(diff_ends, i);
+        let lower = list.lower;
+        out[at] = times[i];
+        out[n + n + at] = diffs[lower];
+        let stays = kept_bit(keep, times, corners, diff_ends, i);
+        at += stays;
+        i += 1;
     }
+    count_up(0, n, out, n);
 }
 
 // Writes the table of these counts, and each layer into its own part.
@@ -388,22 +391,6 @@ fn climb_corners(times: &[u64], upper: &[u64]) -> Kept
             corners: stairs,
         },
     }
-}
-
-// How many times are open.
-fn count_open(times: &[u64], upper: &[u64]) -> usize
-    requires { ⌜ ordered (now upper) ≡ true ⌝ }
-    ensures { λ r. ⌜ r ≡ length (keep (isOpen (now (upper .entry))) (now (times .entry))) ⌝ }
-{
-    let mut number = 0;
-    let mut i = 0;
-    while i < times.len() {
-        if is_open(upper, times[i]) {
-            number += 1;
-        }
-        i += 1;
-    }
-    number
 }
 
 // The open times: in one look, or, where they have too many corners on the way, corner by corner.

@@ -7,7 +7,7 @@ ghost use Rattle.chunk.specs.Entry.{keep};
 use crate::Corners;
 use crate::Frontier;
 use crate::Least;
-use crate::stay::is_open;
+use crate::look::is_open;
 
 // Of the open times with a tick below `limit`, the one least in number.
 fn least_open(times: &[u64], corners: &[u64], limit: u64) -> Least

@@ -18,7 +18,7 @@ pub(crate) fn copy(src: &[u64], dst: &mut [u64], at: usize)
 }
 
 // Writes the numbers after `first`, so many of them, from a place on.
-fn count_up(first: usize, n: usize, dst: &mut [u64], at: usize)
+pub(crate) fn count_up(first: usize, n: usize, dst: &mut [u64], at: usize)
     requires { ⌜ (at + n ≤ length (now dst)) × (first ≤ at) ⌝ }
     ensures { λ _. ⌜ now (dst .exit) ≡ sets (now (dst .entry)) at (countUp first n) ⌝ }
 {

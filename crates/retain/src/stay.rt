@@ -3,81 +3,125 @@ ghost use mathlib.Core.Path.{_≡_};
 ghost use mathlib.Core.Bool.{true, false};
 ghost use Prim.Native.Nat.{ℕ, _+_, _-_, _≤_, _<_};
 ghost use lib.ListN.{length};
-ghost use lib.Dec.{ltb};
-ghost use Rattle.retain.specs.Frontier.{isOpen, ordered};
-ghost use Rattle.retain.specs.Found.{PartedAt};
+ghost use Rattle.retain.specs.Frontier.{ordered};
 ghost use Rattle.retain.specs.Keep.{keepsAt, timeKept, below};
-ghost use Rattle.retain.specs.Layers.{countKept, listKept, KeptRun, ListsLeft};
+ghost use Rattle.retain.specs.Layers.{bit, countKept, listKept, hasDiff, EndsStep, ListsLeft, Ready};
 ghost use Rattle.chunk.specs.Words.{risesFrom};
 use crate::Keep;
 use crate::Level;
 use crate::Lists;
+use crate::look::count_open;
+use crate::look::open_bit;
 
-// How many corners have an ignition at or below a time's.
-pub(crate) fn place_of(corners: &[u64], t: u64) -> usize
-    requires { ⌜ ordered (now corners) ≡ true ⌝ }
-    ensures { λ r. ⌜ PartedAt (now (corners .entry)) t r ⌝ }
+// 1 where a test holds, else 0.
+fn bit_of(b: bool) -> usize
+    ensures { λ r. ⌜ r ≡ bit b ⌝ }
 {
-    let ignition = t / 0x1_0000_0000;
-    let mut low = 0;
-    let mut high = corners.len();
-    while low < high {
-        let middle = low + (high - low) / 2;
-        let corner = corners[middle];
-        if ignition < corner / 0x1_0000_0000 {
-            high = middle;
-        } else {
-            low = middle + 1;
-        }
+    if b {
+        return 1;
     }
-    low
+    0
 }
 
-// Whether some corner is at or below a time. Of the corners whose ignition is at or below the time's the last has the least tick.
-pub(crate) fn is_open(corners: &[u64], t: u64) -> bool
-    requires { ⌜ ordered (now corners) ≡ true ⌝ }
-    ensures { λ r. ⌜ r ≡ isOpen (now (corners .entry)) t ⌝ }
-{
-    let place = place_of(corners, t);
-    if place == 0 {
-        return false;
-    }
-    let corner = corners[place - 1];
-    corner % 0x1_0000_0000 <= t % 0x1_0000_0000
-}
-
-// Whether a time that has a diff stays.
-pub(crate) fn keeps(keep: Keep, times: &[u64], corners: &[u64], i: usize) -> bool
+// 1 where a time that has a diff stays, else 0.
+fn keeps(keep: Keep, times: &[u64], corners: &[u64], i: usize) -> usize
     requires { ⌜ (i < length (now times)) × (ordered (now corners) ≡ true) ⌝ }
-    ensures { λ r. ⌜ r ≡ keepsAt keep (now (times .entry)) (now (corners .entry)) i ⌝ }
+    ensures { λ r. ⌜ r ≡ bit (keepsAt keep (now (times .entry)) (now (corners .entry)) i) ⌝ }
 {
     match keep {
-        Keep::All => true,
-        Keep::Below(n) => i < n,
-        Keep::From(n) => n <= i,
-        Keep::Open => is_open(corners, times[i]),
-        Keep::Shut => !is_open(corners, times[i]),
+        Keep::All => 1,
+        Keep::Below(n) => bit_of(i < n),
+        Keep::From(n) => bit_of(n <= i),
+        Keep::Open => open_bit(corners, times[i]) as usize,
+        Keep::Shut => 1 - open_bit(corners, times[i]) as usize,
     }
 }
 
-// Whether a time has a diff and stays.
-pub(crate) fn time_kept(
+// 1 where a time has a diff and stays, else 0.
+pub(crate) fn kept_bit(
     keep: Keep,
     times: &[u64],
     corners: &[u64],
     diff_ends: &[u64],
     i: usize,
-) -> bool
-    requires { ⌜ (length (now «diff_ends») ≤ length (now times)) × (ordered (now corners) ≡ true) ⌝ }
-    ensures { λ r. ⌜ r ≡ timeKept keep (now (times .entry)) (now (corners .entry)) (now («diff_ends» .entry)) i ⌝ }
+) -> usize
+    requires { ⌜ Ready (now times) (now corners) (now «diff_ends») × (i < length (now «diff_ends»)) ⌝ }
+    ensures { λ r. ⌜ r ≡ bit (timeKept keep (now (times .entry)) (now (corners .entry)) (now («diff_ends» .entry)) i) ⌝ }
 {
     let list = chunk::child_range(diff_ends, i);
     let lower = list.lower;
     let upper = list.upper;
-    if upper <= lower {
-        return false;
+    (upper - lower) * keeps(keep, times, corners, i)
+}
+
+// How many of the times from one index to another have a diff: so many more diffs end there.
+fn count_diffs(diff_ends: &[u64], from: usize, to: usize) -> usize
+    requires { ⌜ EndsStep (now «diff_ends») × ((from ≤ to) × (to ≤ length (now «diff_ends»))) ⌝ }
+    ensures { λ r. ⌜ r ≡ countKept (hasDiff (now («diff_ends» .entry))) from (to - from) ⌝ }
+{
+    if to == 0 {
+        return 0;
     }
-    keeps(keep, times, corners, i)
+    let upper = diff_ends[to - 1] as usize;
+    if from == 0 {
+        return upper;
+    }
+    let lower = diff_ends[from - 1] as usize;
+    upper - lower
+}
+
+// How many of the times from one index to another stay, one by one.
+fn count_each(
+    keep: Keep,
+    times: &[u64],
+    corners: &[u64],
+    diff_ends: &[u64],
+    from: usize,
+    to: usize,
+) -> usize
+    requires { ⌜ Ready (now times) (now corners) (now «diff_ends») × (to ≤ length (now «diff_ends»)) ⌝ }
+    ensures { λ r. ⌜ r ≡ countKept (timeKept keep (now (times .entry)) (now (corners .entry)) (now («diff_ends» .entry))) from (to - from) ⌝ }
+{
+    let mut count = 0;
+    let mut i = from;
+    while i < to {
+        let stays = kept_bit(keep, times, corners, diff_ends, i);
+        count += stays;
+        i += 1;
+    }
+    count
+}
+
+// How many of the times of a range stay: by the ends alone where all with a diff do, and by the corners alone where each has a diff.
+fn count_range(
+    keep: Keep,
+    times: &[u64],
+    corners: &[u64],
+    diff_ends: &[u64],
+    from: usize,
+    to: usize,
+) -> usize
+    requires { ⌜ Ready (now times) (now corners) (now «diff_ends») × ((from ≤ to) × (to ≤ length (now «diff_ends»))) ⌝ }
+    ensures { λ r. ⌜ r ≡ countKept (timeKept keep (now (times .entry)) (now (corners .entry)) (now («diff_ends» .entry))) from (to - from) ⌝ }
+{
+    let all = count_diffs(diff_ends, from, to);
+    let full = all == to - from;
+    match keep {
+        Keep::All => return all,
+        Keep::Open => {
+            if full {
+                return count_open(&times[from..to], corners);
+            }
+        }
+        Keep::Shut => {
+            if full {
+                return all - count_open(&times[from..to], corners);
+            }
+        }
+        Keep::Below(_) => {}
+        Keep::From(_) => {}
+    }
+    count_each(keep, times, corners, diff_ends, from, to)
 }
 
 // How many of the times from one index to another stay.
@@ -89,62 +133,17 @@ pub(crate) fn count_times(
     from: usize,
     to: usize,
 ) -> usize
-    requires { ⌜ (length (now «diff_ends») ≤ length (now times)) × (ordered (now corners) ≡ true) ⌝ }
+    requires { ⌜ Ready (now times) (now corners) (now «diff_ends») ⌝ }
     ensures { λ r. ⌜ r ≡ countKept (timeKept keep (now (times .entry)) (now (corners .entry)) (now («diff_ends» .entry))) from (to - from) ⌝ }
 {
-    let mut count = 0;
-    let mut i = from;
-    while i < to {
-        if time_kept(keep, times, corners, diff_ends, i) {
-            count += 1;
-        }
-        i += 1;
+    let mut top = to;
+    if diff_ends.len() < to {
+        top = diff_ends.len();
     }
-    count
-}
-
-// Where the times that stay end, from one index on.
-pub(crate) fn run_end(
-    keep: Keep,
-    times: &[u64],
-    corners: &[u64],
-    diff_ends: &[u64],
-    from: usize,
-) -> usize
-    requires { ⌜ (length (now «diff_ends») ≤ length (now times)) × (ordered (now corners) ≡ true) ⌝ }
-    requires { ⌜ from ≤ length (now times) ⌝ }
-    ensures { λ r. ⌜ KeptRun (timeKept keep (now (times .entry)) (now (corners .entry)) (now («diff_ends» .entry))) from r (length (now (times .entry))) ⌝ }
-{
-    let mut end = from;
-    while end < times.len() {
-        if !time_kept(keep, times, corners, diff_ends, end) {
-            return end;
-        }
-        end += 1;
+    if top < from {
+        return 0;
     }
-    end
-}
-
-// Whether one of the times from one index to another stays. The first that does settles it.
-pub(crate) fn any_time(
-    keep: Keep,
-    times: &[u64],
-    corners: &[u64],
-    diff_ends: &[u64],
-    from: usize,
-    to: usize,
-) -> bool
-    requires { ⌜ (length (now «diff_ends») ≤ length (now times)) × (ordered (now corners) ≡ true) ⌝ }
-    ensures { λ r. ⌜ r ≡ ltb 0 (countKept (timeKept keep (now (times .entry)) (now (corners .entry)) (now («diff_ends» .entry))) from (to - from)) ⌝ }
-{
-    let mut i = from;
-    while i < to {
-        if time_kept(keep, times, corners, diff_ends, i) {
-            return true;
-        }
-        i += 1;
-    }
-    false
+    count_range(keep, times, corners, diff_ends, from, top)
 }
 
 // How many of the values from one index to another have a time that stays.
@@ -157,7 +156,7 @@ pub(crate) fn count_values(
     from: usize,
     to: usize,
 ) -> usize
-    requires { ⌜ (length (now «diff_ends») ≤ length (now times)) × (ordered (now corners) ≡ true) ⌝ }
+    requires { ⌜ Ready (now times) (now corners) (now «diff_ends») ⌝ }
     ensures { λ r. ⌜ r ≡ countKept (listKept (timeKept keep (now (times .entry)) (now (corners .entry)) (now («diff_ends» .entry))) (now («time_ends» .entry))) from (to - from) ⌝ }
 {
     let mut count = 0;
@@ -166,7 +165,8 @@ pub(crate) fn count_values(
         let list = chunk::child_range(time_ends, i);
         let lower = list.lower;
         let upper = list.upper;
-        if any_time(keep, times, corners, diff_ends, lower, upper) {
+        let left = count_times(keep, times, corners, diff_ends, lower, upper);
+        if 0 < left {
             count += 1;
         }
         i += 1;
@@ -183,7 +183,7 @@ pub(crate) fn count_lists(
     time_ends: &[u64],
     val_ends: &[u64],
 ) -> Lists
-    requires { ⌜ (length (now «diff_ends») ≤ length (now times)) × (ordered (now corners) ≡ true) ⌝ }
+    requires { ⌜ Ready (now times) (now corners) (now «diff_ends») ⌝ }
     requires { ⌜ risesFrom 0 (now «val_ends») ≡ true ⌝ }
     ensures { λ r. ⌜ ListsLeft (listKept (timeKept keep (now (times .entry)) (now (corners .entry)) (now («diff_ends» .entry))) (now («time_ends» .entry))) (now («val_ends» .entry)) (r .keys) (r .vals) ⌝ }
 {
@@ -215,7 +215,7 @@ pub(crate) fn count_below(
     from: usize,
     to: usize,
 ) -> usize
-    requires { ⌜ (length (now «diff_ends») ≤ length (now times)) × (ordered (now corners) ≡ true) ⌝ }
+    requires { ⌜ Ready (now times) (now corners) (now «diff_ends») ⌝ }
     ensures { λ r. ⌜ r ≡ countKept (below level (timeKept keep (now (times .entry)) (now (corners .entry)) (now («diff_ends» .entry))) (now («time_ends» .entry))) from (to - from) ⌝ }
 {
     match level {

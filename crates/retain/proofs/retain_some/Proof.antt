@@ -8,12 +8,10 @@ use Rattle.chunk.specs.declared.Contents.{Contents}
 use Rattle.chunk.specs.Words.{size, over}
 use Rattle.chunk.proofs.Placed.{cut-keys, cut-val-ends, cut-vals, cut-time-ends, cut-times, cut-diff-ends, cut-diffs}
 use Rattle.retain.proofs.Retained.{Cuts, scaled, its-cuts, cut-bodies, cut-left, cut-words}
+use Rattle.retain.proofs.Leaving.{ready}
 use borrow.Author.Needs.{needs}
 use Rattle.retain.proofs.retain_some.Statement.{statement}
 use Rattle.retain.proofs.retain_some.Tie as tie
-
-rows : (a b : ℕ) → a ≡ b → a ≤ b
-rows a b e = omega arith
 
 -- each place is at most the last, and its end is within
 module _ {found : Contents} {n : ℕ} (u : Cuts found n) where
@@ -148,7 +146,7 @@ count-lists-requires c κs =
     let a = c .before .before .before .before .before .before .before .before .before .before in
     let q = a .pre .0 .1 in
     let b = cut-bodies (a .args .words .now) (a .pre .0 .0) (a .args .keep) (a .args .corners .now) _ _ _ _ _ _ _ (cut-keys (a .args .found) (a .args .words .now) q) (cut-val-ends (a .args .found) (a .args .words .now) q) (cut-vals (a .args .found) (a .args .words .now) q) (cut-time-ends (a .args .found) (a .args .words .now) q) (cut-times (a .args .found) (a .args .words .now) q) (cut-diff-ends (a .args .found) (a .args .words .now) q) (cut-diffs (a .args .found) (a .args .words .now) q) in
-    ((rows _ _ (b .timeRows), a .pre .1 .0 .0), b .valEndsRise)
+    (ready _ _ _ _ _ _ _ _ b (a .pre .1 .0 .0), b .valEndsRise)
 
 write-bodies-requires : tie.Need-write-bodies-requires
 write-bodies-requires c κs =

@@ -6,12 +6,10 @@ use Rattle.chunk.specs.Contents.{tableOf}
 use Rattle.retain.proofs.Parts.{out-cuts, up-to, within-as, table-front, put-all, part-length}
 use Rattle.retain.proofs.Writing.{length-nodesOut}
 use Rattle.retain.proofs.Leaving.{length-leavesOut}
+use Rattle.retain.proofs.Leaving.{ready}
 use borrow.Author.Needs.{needs}
 use Rattle.retain.proofs.write_bodies.Statement.{statement}
 use Rattle.retain.proofs.write_bodies.Tie as tie
-
-rows : (a b : ℕ) → a ≡ b → a ≤ b
-rows a b e = omega arith
 
 layout-requires : tie.Need-layout-requires
 layout-requires c κs = search needs
@@ -35,7 +33,7 @@ write-nodes-requires : tie.Need-write-nodes-requires
 write-nodes-requires c κs =
     let a = c .before .before .before .before .before .before .before .before .before .before .before .before .before .before .before in let f = a .pre .1 .1 in let u = out-cuts _ (a .args .nk) (a .args .nv) (a .args .nt) _ (c .before .before .before .before .before .layout .ensures) (f .fewKeys) (f .fewVals) (f .fewTimes) (f .fits) in
     let b = a .pre .1 .0 in
-    ((rows _ _ (b .timeRows), a .pre .0), ((b .keyRows, b .valEndsRise), (f .keysLeft, part-length _ _ _ (a .args .nk + a .args .nk) (u .keys) (within-as _ _ _ (u .keysIn) (c .before .before .before .write-table .kept .0)))))
+    (ready _ _ _ _ _ _ _ _ b (a .pre .0), ((b .keyRows, b .valEndsRise), (f .keysLeft, part-length _ _ _ (a .args .nk + a .args .nk) (u .keys) (within-as _ _ _ (u .keysIn) (c .before .before .before .write-table .kept .0)))))
 
 mul-write-nodes-2 : tie.Need-mul-write-nodes-2
 mul-write-nodes-2 c = let a = c .before .before .before .before .before .before .before .before .before .before .before .before .before .before .before .before .before .before in let f = a .pre .1 .1 in let u = out-cuts _ (a .args .nk) (a .args .nv) (a .args .nt) _ (c .before .before .before .before .before .before .before .before .layout .ensures) (f .fewKeys) (f .fewVals) (f .fewTimes) (f .fits) in u .valsSmall
@@ -53,7 +51,7 @@ write-nodes-requires-2 : tie.Need-write-nodes-requires-2
 write-nodes-requires-2 c κs =
     let a = c .before .before .before .before .before .before .before .before .before .before .before .before .before .before .before .before .before .before .before in let f = a .pre .1 .1 in let u = out-cuts _ (a .args .nk) (a .args .nv) (a .args .nt) _ (c .before .before .before .before .before .before .before .before .before .layout .ensures) (f .fewKeys) (f .fewVals) (f .fewTimes) (f .fits) in
     let b = a .pre .1 .0 in
-    ((rows _ _ (b .timeRows), a .pre .0), ((b .valRows, b .timeEndsRise), (f .valsLeft, part-length _ _ _ (a .args .nv + a .args .nv) (u .vals) (within-as _ _ _ (u .valsIn) (c .before .before .out2 .given .1 ∙ c .before .before .before .before .before .before .before .write-table .kept .0)))))
+    (ready _ _ _ _ _ _ _ _ b (a .pre .0), ((b .valRows, b .timeEndsRise), (f .valsLeft, part-length _ _ _ (a .args .nv + a .args .nv) (u .vals) (within-as _ _ _ (u .valsIn) (c .before .before .out2 .given .1 ∙ c .before .before .before .before .before .before .before .write-table .kept .0)))))
 
 mul-write-leaves : tie.Need-mul-write-leaves
 mul-write-leaves c = let a = c .before .before .before .before .before .before .before .before .before .before .before .before .before .before .before .before .before .before .before .before .before .before in let f = a .pre .1 .1 in let u = out-cuts _ (a .args .nk) (a .args .nv) (a .args .nt) _ (c .before .before .before .before .before .before .before .before .before .before .before .before .layout .ensures) (f .fewKeys) (f .fewVals) (f .fewTimes) (f .fits) in u .timesSmall
@@ -71,7 +69,7 @@ write-leaves-requires : tie.Need-write-leaves-requires
 write-leaves-requires c κs =
     let a = c .before .before .before .before .before .before .before .before .before .before .before .before .before .before .before .before .before .before .before .before .before .before .before in let f = a .pre .1 .1 in let u = out-cuts _ (a .args .nk) (a .args .nv) (a .args .nt) _ (c .before .before .before .before .before .before .before .before .before .before .before .before .before .layout .ensures) (f .fewKeys) (f .fewVals) (f .fewTimes) (f .fits) in
     let b = a .pre .1 .0 in
-    ((b .timeRows, a .pre .0), ((b .diffsWithin, b .diffsByOne), (f .timesLeft, part-length _ _ _ (a .args .nt + (a .args .nt + a .args .nt)) (u .times) (within-as _ _ _ (u .timesIn) (c .before .before .out3 .given .1 ∙ c .before .before .before .before .before .before .out2 .given .1 ∙ c .before .before .before .before .before .before .before .before .before .before .before .write-table .kept .0)))))
+    ((ready _ _ _ _ _ _ _ _ b (a .pre .0), b .timeRows), (b .diffsWithin, (f .timesLeft, part-length _ _ _ (a .args .nt + (a .args .nt + a .args .nt)) (u .times) (within-as _ _ _ (u .timesIn) (c .before .before .out3 .given .1 ∙ c .before .before .before .before .before .before .out2 .given .1 ∙ c .before .before .before .before .before .before .before .before .before .before .before .write-table .kept .0)))))
 
 same-length : tie.Need-same-length
 same-length c = c .before .out4 .given .1 ∙ c .before .before .before .before .before .out3 .given .1 ∙ c .before .before .before .before .before .before .before .before .before .out2 .given .1 ∙ c .before .before .before .before .before .before .before .before .before .before .before .before .before .before .write-table .kept .0

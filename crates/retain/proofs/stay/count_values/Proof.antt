@@ -4,16 +4,16 @@ use mathlib.Core.Path.{_≡_, refl, sym, _∙_, ap}
 use mathlib.Core.Bool.{Bool, true, false}
 use mathlib.Core.Logic.{⊎-elim}
 use native.Mathlib.Omega.{arith}
+use borrow.Author.Tests.{lt-ltb, le-ltb}
 use Rattle.retain.specs.Keep.{timeKept}
 use Rattle.retain.specs.Layers.{countKept, listKept}
-use Rattle.retain.proofs.Counts.{Counted, counted-start, counted-in, counted-out, counted-end, list-any}
+use Rattle.retain.proofs.Counts.{Counted, counted-start, counted-in, counted-out, counted-end, list-left}
 use borrow.Author.Needs.{needs}
 use Rattle.retain.proofs.stay.count_values.Statement.{statement}
 use Rattle.retain.proofs.stay.count_values.Tie as tie
 use Rattle.retain.proofs.stay.count_values.Reads as reads
 use Rattle.retain.proofs.stay.count_values.Lts as lts
 use Rattle.chunk.proofs.child_range.Reads as child-range-reads
-use Rattle.retain.proofs.stay.any_time.Reads as any-time-reads
 
 abbrev Inv-loop : tie.InvT-loop
 Inv-loop keep times corners diff-ends time-ends from to count₀ i₀ count i = Counted (listKept (timeKept keep times corners diff-ends) time-ends) from to count i
@@ -30,8 +30,8 @@ child-range-requires : tie.Need-child-range-requires Inv-loop μ-loop
 child-range-requires c κs = search needs
 
 -- src/stay.rt:135:12
-any-time-requires : tie.Need-any-time-requires Inv-loop μ-loop
-any-time-requires c κs = c .before .before .before .before .before .before .before .pre
+count-times-requires : tie.Need-count-times-requires Inv-loop μ-loop
+count-times-requires c κs = c .before .before .before .before .before .before .before .pre
 
 -- src/stay.rt:136:13
 add-count : tie.Need-add-count Inv-loop μ-loop
@@ -50,10 +50,10 @@ loop-again : tie.Need-loop-again Inv-loop μ-loop
 loop-again c =
     let l = c .before .before .before .before .loop in
     let t = c .before .before .before .loop-test .taken in
-    let k = list-any _ _ _ _ _ (c .before .before .child-range .ensures) (c .before .any-time .ensures) in
+    let k = list-left _ _ _ _ _ (c .before .before .child-range .ensures) (c .before .count-times .ensures) in
     ⊎-elim
-    (λ w. rw (w .1) (counted-in _ _ _ _ _ (l .inv) t (k ∙ w .0 .taken)))
-    (λ w. rw (w .1) (counted-out _ _ _ _ _ (l .inv) t (k ∙ w .0 .left)))
+    (λ w. rw (w .1) (counted-in _ _ _ _ _ (l .inv) t (k ∙ lt-ltb _ _ (w .0 .taken))))
+    (λ w. rw (w .1) (counted-out _ _ _ _ _ (l .inv) t (k ∙ le-ltb _ _ (w .0 .left))))
     (c .if1 .came)
 
 -- src/stay.rt:117:1
@@ -68,7 +68,7 @@ count-values-spec =
     μ-loop
     loop-holds
     child-range-requires
-    any-time-requires
+    count-times-requires
     add-count
     add-i
     loop-less

@@ -1,68 +1,100 @@
--- `retain::keeps` meets its contract: each arm is given which rule it is.
-use mathlib.Core.Path.{_≡_, refl, sym, _∙_, ap}
+-- `retain::stay::keeps` meets its contract: each arm is given which rule it is.
 use Prim.Native.Nat.{ℕ}
-use mathlib.Core.Bool.{Bool, not}
+use mathlib.Core.Path.{_≡_, sym, _∙_, ap}
 use mathlib.Core.List.{List}
+use native.Mathlib.Omega.{arith}
 use Rattle.retain.specs.declared.Keep.{Keep}
 use Rattle.retain.specs.Keep.{keepsAt}
+use Rattle.retain.specs.Layers.{bit}
+use Rattle.retain.proofs.Stairs.{bit-one, bit-not}
 use borrow.Author.Needs.{needs}
 use Rattle.retain.proofs.stay.keeps.Statement.{statement}
 use Rattle.retain.proofs.stay.keeps.Tie as tie
 use Rattle.retain.proofs.stay.keeps.Reads as reads
 use Rattle.retain.proofs.stay.keeps.Lts as lts
-use Rattle.retain.proofs.stay.is_open.Reads as is-open-reads
+use Rattle.retain.proofs.look.open_bit.Reads as open-bit-reads
+use Rattle.retain.proofs.stay.bit_of.Reads as bit-of-reads
 
 -- what a rule says, once it is known
 known : (times corners : List ℕ) (i : ℕ) (k j : Keep) → k ≡ j → keepsAt j times corners i ≡ keepsAt k times corners i
 known times corners i k j e = ap (λ (x : Keep). keepsAt x times corners i) (sym e)
 
+-- src/stay.rt:32:22
 enum-told : tie.Need-enum-told
 enum-told c = search needs
 
+-- src/stay.rt:33:21
 enum-known-keep : tie.Need-enum-known-keep
 enum-known-keep c = search needs
 
+-- src/stay.rt:33:27
+bit-of-requires : tie.Need-bit-of-requires
+bit-of-requires c κs = search needs
+
+-- src/stay.rt:34:20
 enum-known-keep-2 : tie.Need-enum-known-keep-2
 enum-known-keep-2 c = search needs
 
+-- src/stay.rt:34:26
+bit-of-requires-2 : tie.Need-bit-of-requires-2
+bit-of-requires-2 c κs = search needs
+
+-- src/stay.rt:35:41
 enum-told-2 : tie.Need-enum-told-2
 enum-told-2 c = search needs
 
-mul-is-open : tie.Need-mul-is-open
-mul-is-open c = search needs
+-- src/stay.rt:35:41
+mul-open-bit : tie.Need-mul-open-bit
+mul-open-bit c = search needs
 
-shared-slice-read-is-open : tie.Need-shared-slice-read-is-open
-shared-slice-read-is-open c = search needs
+-- src/stay.rt:35:41
+shared-slice-read-open-bit : tie.Need-shared-slice-read-open-bit
+shared-slice-read-open-bit c = search needs
 
-is-open-requires : tie.Need-is-open-requires
-is-open-requires c κs = search needs
+-- src/stay.rt:35:23
+open-bit-requires : tie.Need-open-bit-requires
+open-bit-requires c κs = search needs
 
+-- src/stay.rt:36:45
 enum-told-3 : tie.Need-enum-told-3
 enum-told-3 c = search needs
 
-mul-is-open-2 : tie.Need-mul-is-open-2
-mul-is-open-2 c = search needs
+-- src/stay.rt:36:45
+mul-open-bit-2 : tie.Need-mul-open-bit-2
+mul-open-bit-2 c = search needs
 
-shared-slice-read-is-open-2 : tie.Need-shared-slice-read-is-open-2
-shared-slice-read-is-open-2 c = search needs
+-- src/stay.rt:36:45
+shared-slice-read-open-bit-2 : tie.Need-shared-slice-read-open-bit-2
+shared-slice-read-open-bit-2 c = search needs
 
-is-open-requires-2 : tie.Need-is-open-requires-2
-is-open-requires-2 c κs = search needs
+-- src/stay.rt:36:27
+open-bit-requires-2 : tie.Need-open-bit-requires-2
+open-bit-requires-2 c κs = search needs
 
+-- src/stay.rt:36:23
+sub-result : tie.Need-sub-result
+sub-result c = bit-one _ _ (c .open-bit2 .ensures)
+
+-- src/stay.rt:27:1
 returns : tie.Need-returns
+unfolding bit
 returns c = search needs
 
+-- src/stay.rt:27:1
 returns-2 : tie.Need-returns-2
-returns-2 c = let a = c .before .before .before .before .before .args in known (a .times .now) (a .corners .now) (a .i) _ _ (c .before .keep .given .1)
+returns-2 c = let a = c .before .before .before .before .before .before .args in c .bit-of .ensures ∙ ap bit (known (a .times .now) (a .corners .now) (a .i) _ _ (c .before .before .keep .given .1))
 
+-- src/stay.rt:27:1
 returns-3 : tie.Need-returns-3
-returns-3 c = let a = c .before .before .before .before .before .args in known (a .times .now) (a .corners .now) (a .i) _ _ (c .before .keep2 .given .1)
+returns-3 c = let a = c .before .before .before .before .before .before .args in c .bit-of2 .ensures ∙ ap bit (known (a .times .now) (a .corners .now) (a .i) _ _ (c .before .before .keep2 .given .1))
 
+-- src/stay.rt:27:1
 returns-4 : tie.Need-returns-4
-returns-4 c = let a = c .before .before .before .before .before .before .args in c .is-open .ensures ∙ known (a .times .now) (a .corners .now) (a .i) _ _ (c .before .before .enum-told2 .given .1)
+returns-4 c = let a = c .before .before .before .before .before .before .args in c .open-bit .ensures ∙ ap bit (known (a .times .now) (a .corners .now) (a .i) _ _ (c .before .before .enum-told2 .given .1))
 
+-- src/stay.rt:27:1
 returns-5 : tie.Need-returns-5
-returns-5 c = let a = c .before .before .before .before .before .before .args in ap not (c .is-open2 .ensures) ∙ known (a .times .now) (a .corners .now) (a .i) _ _ (c .before .before .enum-told3 .given .1)
+returns-5 c = let a = c .before .before .before .before .before .before .args in bit-not _ _ (c .open-bit2 .ensures) ∙ ap bit (known (a .times .now) (a .corners .now) (a .i) _ _ (c .before .before .enum-told3 .given .1))
 
 pub keeps-spec : {M : Type 1} → statement M
 keeps-spec =
@@ -70,15 +102,18 @@ keeps-spec =
     (tie.spec
     enum-told
     enum-known-keep
+    bit-of-requires
     enum-known-keep-2
+    bit-of-requires-2
     enum-told-2
-    mul-is-open
-    shared-slice-read-is-open
-    is-open-requires
+    mul-open-bit
+    shared-slice-read-open-bit
+    open-bit-requires
     enum-told-3
-    mul-is-open-2
-    shared-slice-read-is-open-2
-    is-open-requires-2
+    mul-open-bit-2
+    shared-slice-read-open-bit-2
+    open-bit-requires-2
+    sub-result
     returns
     returns-2
     returns-3

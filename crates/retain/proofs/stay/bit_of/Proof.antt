@@ -1,0 +1,20 @@
+-- `retain::stay::bit_of` meets its contract: 1 or 0 by the test.
+use mathlib.Core.Path.{sym, ap}
+use Rattle.retain.specs.Layers.{bit}
+use Rattle.retain.proofs.stay.bit_of.Statement.{statement}
+use Rattle.retain.proofs.stay.bit_of.Tie as tie
+use Rattle.retain.proofs.stay.bit_of.Reads as reads
+use Rattle.retain.proofs.stay.bit_of.Lts as lts
+
+-- src/stay.rt:21:9
+returns : tie.Need-returns
+unfolding bit
+returns c = ap bit (sym (c .if1 .taken))
+
+-- src/stay.rt:17:1
+returns-2 : tie.Need-returns-2
+unfolding bit
+returns-2 c = ap bit (sym (c .if1 .left))
+
+pub bit-of-spec : {M : Type 1} → statement M
+bit-of-spec = tie.close (tie.spec returns returns-2)

@@ -71,7 +71,7 @@ struct work {
 static uint64_t run(struct work *k)
 {
     switch (k->call) {
-    case CHECK: return rl_check(k->a.w, k->a.n, k->x, k->xn);
+    case CHECK: return rl_check(k->a.w, k->a.n, k->x, k->xn) + (k->b.n ? rl_check(k->b.w, k->b.n, k->x, k->xn) : 0);
     case FORM: return rl_form(k->a.w, k->a.n, k->x, k->xn);
     case FORM_UNSORTED: return rl_form_unsorted(k->y, k->a.n, k->x, k->xn);
     case FILTER: return rl_filter_zero(k->a.w, k->a.n, k->x, k->xn);

@@ -65,7 +65,7 @@ def cases(n, per_key, per_val):
     yield ("survey", n + len(half), w, chunk_of(half))
     for b in (spread(rng, rows, 64), half):
         if 256 <= n and n + len(b) <= LIMIT:
-            for call in ("merge_pair", "plain merge"):
+            for call in ("merge_pair", "check", "plain merge"):
                 yield (call, n + len(b), w, chunk_of(b))
 
 def built(o):
@@ -105,14 +105,22 @@ def main():
                     for part in ([CALLS.index(call)], [len(a)], [x % TOP64 for x in a], [len(b)], [x % TOP64 for x in b]):
                         array.array("Q", part).tofile(f)
             mine, theirs = answers(ours, path, o.seconds), answers([speed], path, o.seconds)
-            for (call, records, _, _), x, y in zip(every, mine, theirs):
-                if x and y:
+            for (call, records, _, b), x, y in zip(every, mine, theirs):
+                if x and y and call != "plain merge":
                     same, wrong = same + (x[2] == y[2]), wrong + (x[2] != y[2])
                     if x[2] != y[2]:
                         print("%s, %s, %d records: the results differ" % (call, shape, records))
                 ns = lambda z: "%.2f" % (z[0] / records) if z and native else "-"
+                budget = BUDGET.get(call, "-")
+                if call == "merge_pair":
+                    merge = x, y
+                    budget = budget if n == 65536 and records <= n + 64 else "-"
+                elif call == "check" and b:
+                    call, x, y = "merge_pair less its check", [merge[0][0] - x[0]], merge[1]
+                elif call == "plain merge":
+                    x, budget = merge[0], 2.0 if n == 65536 and records <= n + 64 else "-"
                 ratio = "%.2f" % (x[0] / y[0]) if x and y and native else "-"
-                print("| %s | %s | %d | %s | %s | %s | %s |" % (call, shape, records, ns(x), ns(y), ratio, BUDGET.get(call, "-")))
+                print("| %s | %s | %d | %s | %s | %s | %s |" % (call, shape, records, ns(x), ns(y), ratio, budget))
     print("\n%d results the same in both, %d differ" % (same, wrong))
     if not native:
         print("The library ran under an emulator, so no times are given.")

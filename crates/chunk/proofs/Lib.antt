@@ -2,3 +2,4 @@
 pub mod Tests
 pub mod WellFormed
 pub mod Placed
+pub mod Counting

@@ -202,8 +202,22 @@ fn items_rise(items: &[u64]) -> bool
     true
 }
 
-// Whether the ends rise strictly from above 0 to the count of the items, and the items rise strictly within each list.
-fn layer_rises(ends: &[u64], items: &[u64]) -> bool
+// Whether the ends are 1, 2 and so on: only so do ends rise strictly from above 0 to their own count.
+fn counts_up(ends: &[u64]) -> bool
+    ensures { λ r. ⌜ r ≡ endsRise 0 (now (ends .entry)) (length (now (ends .entry))) ⌝ }
+{
+    let mut i = 0;
+    while i < ends.len() {
+        if ends[i] != i as u64 + 1 {
+            return false;
+        }
+        i += 1;
+    }
+    true
+}
+
+// Whether the ends rise strictly from above 0 to the count of the items, and the items rise strictly within each list: list by list, in any layer.
+fn lists_rise(ends: &[u64], items: &[u64]) -> bool
     ensures { λ r. ⌜ r ≡ (endsRise 0 (now (ends .entry)) (length (now (items .entry))) && every rises (lists 0 (now (ends .entry)) (now (items .entry)))) ⌝ }
 {
     let mut low: usize = 0;
@@ -225,8 +239,18 @@ fn layer_rises(ends: &[u64], items: &[u64]) -> bool
     low == items.len()
 }
 
-// Whether each end is the previous one or one more, and the last is `top`.
-fn ends_step(ends: &[u64], top: u64) -> bool
+// What `lists_rise` says. Where there are as many items as ends each list can have one item only, and the ends alone tell.
+fn layer_rises(ends: &[u64], items: &[u64]) -> bool
+    ensures { λ r. ⌜ r ≡ (endsRise 0 (now (ends .entry)) (length (now (items .entry))) && every rises (lists 0 (now (ends .entry)) (now (items .entry)))) ⌝ }
+{
+    if ends.len() == items.len() {
+        return counts_up(ends);
+    }
+    lists_rise(ends, items)
+}
+
+// Whether each end is the previous one or one more, and the last is `top`: end by end, for any `top`.
+fn ends_near(ends: &[u64], top: u64) -> bool
     ensures { λ r. ⌜ r ≡ endsStep 0 (now (ends .entry)) top ⌝ }
 {
     let mut low = 0;
@@ -243,6 +267,16 @@ fn ends_step(ends: &[u64], top: u64) -> bool
         i += 1;
     }
     low == top
+}
+
+// What `ends_near` says. Where `top` is the count of the ends, each end has to be one more than the previous one.
+fn ends_step(ends: &[u64], top: u64) -> bool
+    ensures { λ r. ⌜ r ≡ endsStep 0 (now (ends .entry)) top ⌝ }
+{
+    if ends.len() as u64 == top {
+        return counts_up(ends);
+    }
+    ends_near(ends, top)
 }
 
 // Whether no diff is 0.

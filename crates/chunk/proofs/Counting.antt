@@ -67,9 +67,16 @@ steps low top (e ∷ ends) h =
 pub stepped : (top : ℕ) (ends : List ℕ) → length ends ≡ top → endsRise 0 ends (length ends) ≡ endsStep 0 ends top
 stepped top ends h = rw h (sym (steps 0 top ends (omega arith)))
 
--- of all the ends, those from one on: the next is one more
-pub turn : (ends : List ℕ) (i : ℕ) → i < length ends → endsRise i (drop i ends) (length ends) ≡ (eqb (getD ends i 0) (i + 1) && endsRise (i + 1) (drop (i + 1) ends) (length ends))
-turn ends i h = rw (add-one, drop-cons ends i 0) (rise-first i _ (length ends) (drop (suc i) ends) (simp length-drop (omega arith)))
+-- of all the ends, those from one on: where it is one more those after it tell, and else the whole fails
+module _ (ends : List ℕ) (i : ℕ) (h : i < length ends) where
+  turn : endsRise i (drop i ends) (length ends) ≡ (eqb (getD ends i 0) (i + 1) && endsRise (i + 1) (drop (i + 1) ends) (length ends))
+  turn = rw (add-one, drop-cons ends i 0) (rise-first i _ (length ends) (drop (suc i) ends) (simp length-drop (omega arith)))
+
+  pub met : getD ends i 0 ≡ i + 1 → endsRise i (drop i ends) (length ends) ≡ endsRise (i + 1) (drop (i + 1) ends) (length ends)
+  met e = turn ∙ simp (eq-eqb _ _ e)
+
+  pub missed : (getD ends i 0 ≡ i + 1 → ⊥) → endsRise i (drop i ends) (length ends) ≡ false
+  missed e = turn ∙ simp (ne-eqb _ _ e)
 
 -- a list of one item at most rises
 single : (items : List ℕ) → rises (take 1 items) ≡ true

@@ -202,18 +202,19 @@ fn items_rise(items: &[u64]) -> bool
     true
 }
 
-// Whether the ends are 1, 2 and so on: only so do ends rise strictly from above 0 to their own count.
+// Whether the ends are 1, 2 and so on: only so do ends rise strictly from above 0 to their own count. It reads every end, so that no read waits for the one before it.
 fn counts_up(ends: &[u64]) -> bool
     ensures { λ r. ⌜ r ≡ endsRise 0 (now (ends .entry)) (length (now (ends .entry))) ⌝ }
 {
+    let mut good = true;
     let mut i = 0;
     while i < ends.len() {
         if ends[i] != i as u64 + 1 {
-            return false;
+            good = false;
         }
         i += 1;
     }
-    true
+    good
 }
 
 // Whether the ends rise strictly from above 0 to the count of the items, and the items rise strictly within each list: list by list, in any layer.
@@ -279,18 +280,19 @@ fn ends_step(ends: &[u64], top: u64) -> bool
     ends_near(ends, top)
 }
 
-// Whether no diff is 0.
+// Whether no diff is 0. It reads every diff, with no exit before the last.
 fn diffs_stand(diffs: &[u64]) -> bool
     ensures { λ r. ⌜ r ≡ every (λ (d : ℕ). not (eqb d 0)) (now (diffs .entry)) ⌝ }
 {
+    let mut good = true;
     let mut i = 0;
     while i < diffs.len() {
         if diffs[i] == 0 {
-            return false;
+            good = false;
         }
         i += 1;
     }
-    true
+    good
 }
 
 // Whether all three counts are zero, or none is.

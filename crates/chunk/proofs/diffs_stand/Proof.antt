@@ -1,18 +1,18 @@
--- `chunk::diffs_stand` meets its contract: from each diff on, the test of those that are left is the whole test.
-use Prim.Native.Nat.{ℕ, suc, _≤_, _<_, _+_, _-_}
-use mathlib.Core.Path.{_≡_, refl, sym, _∙_, ap}
-use mathlib.Core.Bool.{Bool, true, false, not, _&&_, _||_}
-use mathlib.Core.List.{List, [], _∷_}
-use native.Mathlib.Omega.{arith}
+-- `chunk::diffs_stand` meets its contract: the whole test is that no diff was 0 so far, and the test of those that are left.
+use Prim.Native.Nat.{ℕ, _≤_, _<_, _+_, _-_}
+use mathlib.Core.Path.{_≡_, sym, _∙_}
+use mathlib.Core.Bool.{not, _&&_}
+use mathlib.Core.List.{List}
+use mathlib.Core.Logic.{⊎-elim}
 use native.Mathlib.Numerals.{add-one}
 use borrow.Author.Needs.{needs}
-use borrow.Author.Tests.{lt-ltb, le-ltb, eq-eqb, ne-eqb}
-use lib.ListN.{length, take, drop, getD, drop-of-length-le}
-use lib.Seq.{drop-cons, drop-length}
-use lib.Dec.{ltb, eqb}
+use borrow.Author.Tests.{eq-eqb, ne-eqb}
+use lib.ListN.{length, drop, getD, drop-of-length-le}
+use lib.Seq.{drop-cons}
+use lib.Dec.{eqb}
 use denote.Ref.{now}
 use Rattle.chunk.specs.Entry.{every}
-use Rattle.chunk.specs.Words.{endsRise, endsStep, rises, risesFrom, lists}
+use Rattle.chunk.proofs.Tests.{and-false, and-true}
 use Rattle.chunk.proofs.diffs_stand.Statement.{statement}
 use Rattle.chunk.proofs.diffs_stand.Tie as tie
 use Rattle.chunk.proofs.diffs_stand.Reads as reads
@@ -24,10 +24,11 @@ unfolding every
 turn ds i h = rw (add-one, drop-cons ds i 0)
 
 abbrev Inv-loop : tie.InvT-loop
-Inv-loop diffs i₀ i = (i ≤ length diffs) × (every (λ (d : ℕ). not (eqb d 0)) diffs ≡ every (λ (d : ℕ). not (eqb d 0)) (drop i diffs))
+Inv-loop diffs good₀ i₀ good i =
+    (i ≤ length diffs) × (every (λ (d : ℕ). not (eqb d 0)) diffs ≡ (good && every (λ (d : ℕ). not (eqb d 0)) (drop i diffs)))
 
 abbrev μ-loop : tie.MeasureT-loop
-μ-loop diffs i₀ i = length diffs - i
+μ-loop diffs good₀ i₀ good i = length diffs - i
 
 loop-holds : tie.Need-loop-holds Inv-loop μ-loop
 loop-holds c = search needs
@@ -38,11 +39,6 @@ mul-if1 c = search needs
 shared-slice-read-if1 : tie.Need-shared-slice-read-if1 Inv-loop μ-loop
 shared-slice-read-if1 c = search needs
 
-returns : tie.Need-returns Inv-loop μ-loop
-returns c =
-    let l = c .before .before .before .loop in
-    sym (l .inv .1 ∙ turn _ _ (c .before .before .loop-test .taken) ∙ simp (eq-eqb _ _ (c .if1 .taken)))
-
 add-i : tie.Need-add-i Inv-loop μ-loop
 add-i c = search needs
 
@@ -52,11 +48,18 @@ loop-less c = search needs
 loop-again : tie.Need-loop-again Inv-loop μ-loop
 loop-again c =
     let l = c .before .before .before .loop in
-    (search needs, l .inv .1 ∙ turn _ _ (c .before .before .loop-test .taken) ∙ simp (ne-eqb _ _ (c .if1 .left)))
+    let s = now (c .before .before .before .before .args .diffs) in
+    let t = turn s (l .i) (c .before .before .loop-test .taken) in (
+      search needs,
+      ⊎-elim
+          (λ w. l .inv .1 ∙ simp (t, eq-eqb _ _ (w .0 .taken), and-false, w .1))
+          (λ w. l .inv .1 ∙ simp (t, ne-eqb _ _ (w .0 .left), w .1))
+          (c .if1 .came),
+    )
 
-returns-2 : tie.Need-returns-2 Inv-loop μ-loop
+returns : tie.Need-returns Inv-loop μ-loop
 unfolding every
-returns-2 c = sym (c .before .loop .inv .1 ∙ simp (drop-of-length-le (now (c .before .before .args .diffs)) (c .loop-test .left)))
+returns c = sym (c .before .loop .inv .1 ∙ simp (drop-of-length-le (now (c .before .before .args .diffs)) (c .loop-test .left), and-true))
 
 pub diffs-stand-spec : {M : Type 1} → statement M
 diffs-stand-spec =
@@ -67,8 +70,7 @@ diffs-stand-spec =
     loop-holds
     mul-if1
     shared-slice-read-if1
-    returns
     add-i
     loop-less
     loop-again
-    returns-2)
+    returns)

@@ -100,13 +100,13 @@ count-add m i (suc a) b =
     ap (countKept m i) z ∙ by-test (m i) (λ k. simp k (omega arith)) (λ k. simp k (omega arith))
 
 -- a list that is there ends above its start
-start-below : (low : ℕ) (ends : List ℕ) (i : ℕ) → risesFrom low ends ≡ true → i < length ends → getD (low ∷ ends) i 0 < getD ends i 0
+pub start-below : (low : ℕ) (ends : List ℕ) (i : ℕ) → risesFrom low ends ≡ true → i < length ends → getD (low ∷ ends) i 0 < getD ends i 0
 unfolding risesFrom
 start-below low [] i r h = absurd (omega arith)
 start-below low (e ∷ ends) zero r h = ltb-true _ _ (and-left _ _ r)
 start-below low (e ∷ ends) (suc i) r h = start-below e ends i (and-right (ltb low e) _ r) (omega arith)
 
-start-as : (ends : List ℕ) (i : ℕ) → startOf ends i ≡ getD (0 ∷ ends) i 0
+pub start-as : (ends : List ℕ) (i : ℕ) → startOf ends i ≡ getD (0 ∷ ends) i 0
 start-as ends zero = refl
 start-as ends (suc i) = refl
 

@@ -151,7 +151,7 @@ closings-places h q n (a ∷ b ∷ es) =
     let ih : closings sameKey h (suc n) (map place (b ∷ es)) ≡ closings sameKey h (suc n) (b ∷ es) = closings-places h q (suc n) (b ∷ es) in
     simp (q a (suc n), ih)
 
-pick-map : {A B : Type 0} (f : A → B) (m : ℕ → Bool) (i : ℕ) (l : List A) → map f (pick m i l) ≡ pick m i (map f l)
+pub pick-map : {A B : Type 0} (f : A → B) (m : ℕ → Bool) (i : ℕ) (l : List A) → map f (pick m i l) ≡ pick m i (map f l)
 unfolding pick
 pick-map f m i [] = refl
 pick-map f m i (a ∷ l) = by-test (m i) (λ k. simp (k, pick-map f m (suc i) l)) (λ k. simp (k, pick-map f m (suc i) l))

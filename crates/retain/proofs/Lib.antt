@@ -21,3 +21,5 @@ pub mod Copies
 pub mod Spots
 pub mod Running
 pub mod Whole
+pub mod Spans
+pub mod Sliced

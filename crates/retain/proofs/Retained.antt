@@ -49,7 +49,7 @@ unfolding endsRise
 last-end low [] top h = eqb-true _ _ h
 last-end low (e ∷ ends) top h = last-end e ends top (and-right (ltb low e) _ h)
 
-rise-last : (ends : List ℕ) (top : ℕ) → endsRise 0 ends top ≡ true → startOf ends (length ends) ≡ top
+pub rise-last : (ends : List ℕ) (top : ℕ) → endsRise 0 ends top ≡ true → startOf ends (length ends) ≡ top
 rise-last [] top h = last-end 0 [] top h
 rise-last (e ∷ ends) top h = last-end 0 (e ∷ ends) top h
 
@@ -118,16 +118,16 @@ module _ (w : List ℕ) (f : wellFormed w ≡ true) (leaf : ℕ → Bool) where
   abbrev fs : List Entry
   fs = pick timeStays 0 es
 
-  keys-in : keys es ≡ keyBody w
+  pub keys-in : keys es ≡ keyBody w
   keys-in = ap (λ (s : Seven). s .keyList) (bodies-in w f)
 
-  valEnds-in : valEnds es ≡ valEndBody w
+  pub valEnds-in : valEnds es ≡ valEndBody w
   valEnds-in = ap (λ (s : Seven). s .valEndList) (bodies-in w f)
 
-  vals-in : vals es ≡ valBody w
+  pub vals-in : vals es ≡ valBody w
   vals-in = ap (λ (s : Seven). s .valList) (bodies-in w f)
 
-  timeEnds-in : timeEnds es ≡ timeEndBody w
+  pub timeEnds-in : timeEnds es ≡ timeEndBody w
   timeEnds-in = ap (λ (s : Seven). s .timeEndList) (bodies-in w f)
 
   pub times-in : times es ≡ timeBody w
@@ -136,7 +136,7 @@ module _ (w : List ℕ) (f : wellFormed w ≡ true) (leaf : ℕ → Bool) where
   pub diffEnds-in : diffEnds es ≡ diffEndBody w
   diffEnds-in = ap (λ (s : Seven). s .diffEndList) (bodies-in w f)
 
-  diffs-in : diffs es ≡ diffBody w
+  pub diffs-in : diffs es ≡ diffBody w
   diffs-in = ap (λ (s : Seven). s .diffList) (bodies-in w f)
 
   rise : rising es ≡ true
@@ -241,10 +241,10 @@ module _ (w : List ℕ) (f : wellFormed w ≡ true) (leaf : ℕ → Bool) where
   its-vals k v l = l .items ∙ ap (countKept valueStays 0) (rise-last (valEndBody w) (nv w) (parts w f .valEndsRise) ∙ sym (length-vals (contentsOf w) w its-place))
 
   -- no more keys than values, and no more values than times
-  keys-few : nk w ≤ nv w
+  pub keys-few : nk w ≤ nv w
   keys-few = let a = rise-count 0 (valEndBody w) (nv w) (parts w f .valEndsRise) in let b = length-val-ends (contentsOf w) w its-place in omega arith
 
-  vals-few : nv w ≤ nt w
+  pub vals-few : nv w ≤ nt w
   vals-few = let a = rise-count 0 (timeEndBody w) (nt w) (parts w f .timeEndsRise) in let b = length-time-ends (contentsOf w) w its-place in omega arith
 
   -- where the words are cut

@@ -17,6 +17,8 @@ use climb::add_corner;
 use look::count_open;
 use look::is_open;
 use one_by_one::scan_corners;
+use ranges::range_of;
+use ranges::retain_range;
 use runs::copy;
 use runs::count_up;
 use stay::count_below;
@@ -26,6 +28,7 @@ use stay::kept_bit;
 mod climb;
 mod look;
 mod one_by_one;
+mod ranges;
 mod runs;
 mod stay;
 
@@ -237,7 +240,8 @@ fn retain_some(
     );
 }
 
-// The same, or less: the whole chunk as it is where all stay, and the empty one where none does.
+// The same, or less: the whole chunk as it is where all stay, the empty one where none does, and of a settled chunk that is cut at an index a range of
+// each layer.
 fn retain_items(
     words: &[u64],
     found: Contents,
@@ -260,6 +264,16 @@ fn retain_items(
     if nt == 0 {
         chunk::write_table(out, 0, 0, 0, 0);
         return;
+    }
+    let diffs = found.nd;
+    if diffs == all {
+        let range = range_of(keep, nt, all);
+        let lower = range.lower;
+        let upper = range.upper;
+        if lower < upper {
+            retain_range(words, found, range, out);
+            return;
+        }
     }
     retain_some(words, found, keep, corners, nt, out);
 }

@@ -1,0 +1,85 @@
+-- A split of a settled chunk (document 01: "First n records, and the rest"): a range of the records is a range of each layer.
+use Prim.Native.Nat.{ℕ, suc, _+_, _-_, _*_, _<_, _≤_, min}
+use mathlib.Core.Path.{_≡_}
+use mathlib.Core.Bool.{Bool, true, _&&_}
+use mathlib.Core.List.{List, _++_, map}
+use lib.Dec.{leb, ltb}
+use lib.ListN.{length, getD, take, drop}
+use Rattle.chunk.specs.declared.Range.{Range}
+use Rattle.chunk.specs.Words.{risesFrom, limit, tableSize}
+use Rattle.chunk.specs.Contents.{startOf, tableOf}
+use Rattle.retain.specs.declared.Keep.{Keep}
+use Rattle.retain.specs.declared.Keep.the-variants.{All, Below, From, Open, Shut}
+use Rattle.retain.specs.Layers.{countUp}
+
+-- the items of a range
+abbrev pub part : {A : Type 0} → ℕ → ℕ → List A → List A
+part a b l = take (b - a) (drop a l)
+
+-- whether an index is within a range
+abbrev pub within : ℕ → ℕ → ℕ → Bool
+within lo hi k = leb lo k && ltb k hi
+
+-- the lists before place n end at or below a number, and those from it on above it
+pub record EndsParted (ends : List ℕ) (number n : ℕ) : Type 0 where
+  pub within : n ≤ length ends
+  pub early : (k : ℕ) → k < n → getD ends k 0 ≤ number
+  pub late : (k : ℕ) → n ≤ k → k < length ends → number < getD ends k 0
+
+-- the lists that have an item of a range: those before end at or below its start, and of the others only the last ends at or above its end
+pub record Span (ends : List ℕ) (items lists : Range) : Type 0 where
+  pub filled : items .lower < items .upper
+  pub some : lists .lower < lists .upper
+  pub within : lists .upper ≤ length ends
+  pub early : (k : ℕ) → k < lists .lower → getD ends k 0 ≤ items .lower
+  pub above : (k : ℕ) → lists .lower ≤ k → k < length ends → items .lower < getD ends k 0
+  pub below : (k : ℕ) → suc k < lists .upper → getD ends k 0 < items .upper
+  pub late : (k : ℕ) → lists .upper ≤ suc k → k < length ends → items .upper ≤ getD ends k 0
+
+-- ends counted from the start of a range, and no further than its end
+abbrev pub cutEnds : Range → List ℕ → List ℕ
+cutEnds r ends = map (λ (e : ℕ). min e (r .upper) - r .lower) ends
+
+-- a layer's items that have a list left, and after them the ends of those lists
+abbrev pub rangeOut : List ℕ → List ℕ → Range → Range → List ℕ
+rangeOut items ends below here = part (here .lower) (here .upper) items ++ cutEnds below (part (here .lower) (here .upper) ends)
+
+-- six bodies that belong together: as many ends as items above them, one diff to a time, and ends that rise to the count of items below them
+pub record Layered (keys valEnds vals timeEnds times diffs : List ℕ) : Type 0 where
+  pub keyRows : length keys ≡ length valEnds
+  pub valRows : length vals ≡ length timeEnds
+  pub timeRows : length diffs ≡ length times
+  pub valEndsRise : risesFrom 0 valEnds ≡ true
+  pub timeEndsRise : risesFrom 0 timeEnds ≡ true
+  pub valsEnd : startOf valEnds (length valEnds) ≡ length vals
+  pub timesEnd : startOf timeEnds (length timeEnds) ≡ length times
+  pub fewKeys : length keys ≤ limit
+  pub fewVals : length vals ≤ limit
+  pub fewTimes : length times ≤ limit
+
+-- a range of each layer, and room for its chunk
+pub record Ranged (keys valEnds vals timeEnds times : List ℕ) (ks vs ts : Range) (room : ℕ) : Type 0 where
+  pub keysIn : Span valEnds vs ks
+  pub valsIn : Span timeEnds ts vs
+  pub timesIn : ts .upper ≤ length times
+  pub fits : tableSize + 2 * length keys + 2 * length vals + 2 * length times + length times ≤ room
+
+-- the words of a range of six bodies: the table, the keys and their ends, the values and theirs, the times, theirs and the diffs
+abbrev pub rangesOut : List ℕ → List ℕ → List ℕ → List ℕ → List ℕ → List ℕ → Range → Range → Range → List ℕ
+rangesOut keys valEnds vals timeEnds times diffs ks vs ts =
+    let n : ℕ = ts .upper - ts .lower in
+    tableOf (ks .upper - ks .lower) (vs .upper - vs .lower) n n
+    ++ (rangeOut keys valEnds vs ks ++ (rangeOut vals timeEnds ts vs
+    ++ (part (ts .lower) (ts .upper) times ++ (countUp 0 n ++ part (ts .lower) (ts .upper) diffs))))
+
+-- a range
+abbrev pub fromTo : ℕ → ℕ → Range
+fromTo a b = record { lower = a; upper = b }
+
+-- which range of so many records stays, where it is known that so many do: the first, the last, or none that is known
+abbrev pub rangeOf : Keep → ℕ → ℕ → Range
+rangeOf All n all = fromTo 0 0
+rangeOf (Below k) n all = fromTo 0 n
+rangeOf (From k) n all = fromTo (all - n) all
+rangeOf Open n all = fromTo 0 0
+rangeOf Shut n all = fromTo 0 0

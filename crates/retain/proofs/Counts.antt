@@ -39,14 +39,7 @@ count-most m i (suc n) =
     let ih : countKept m (suc i) n ≤ n = count-most m (suc i) n in
     by-test (m i) (λ k. simp k (omega arith)) (λ k. simp k (omega arith))
 
--- a list has items where its range does
-pub range-has : (ends : List ℕ) (i : ℕ) (r : Range) → r ≡ childRange ends i → ltb (r .lower) (r .upper) ≡ hasDiff ends i
-unfolding childRange
-range-has ends i r e =
-    by-test (ltb i (length ends))
-    (λ h. simp (e, h))
-    (λ h. let z : getD ends i 0 ≡ 0 = List·getD-eq-default ends 0 (ltb-false i (length ends) h) in simp (e, h, z, le-ltb (startOf ends i) 0 (omega arith)))
-
+-- a list that has an item is there
 pub has-within : (ends : List ℕ) (i : ℕ) → hasDiff ends i ≡ true → i < length ends
 has-within ends i h =
     by-test (ltb i (length ends)) (λ k. ltb-true _ _ k)

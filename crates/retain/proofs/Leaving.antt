@@ -5,8 +5,8 @@ use mathlib.Core.Bool.{Bool, true, false}
 use mathlib.Core.List.{List, [], _∷_, _++_}
 use native.Mathlib.Omega.{arith}
 use lib.Dec.{ltb}
-use lib.ListN.{length, getD, set, take, drop, length-append, length-set}
-use lib.Seq.{sets, length-sets, drop-cons}
+use lib.ListN.{length, getD, set, length-append, length-set}
+use lib.Seq.{sets}
 use borrow.Author.Tests.{ltb-true, ltb-false}
 use Rattle.chunk.specs.Contents.{startOf}
 use Rattle.laws.proofs.Lists.{no-length}
@@ -31,53 +31,6 @@ unfolding countUp
 getD-countUp n zero j h = absurd (omega arith)
 getD-countUp n (suc k) zero h = let e : n ≡ n + 0 = omega arith in ap suc e
 getD-countUp n (suc k) (suc j) h = let e : suc n + j ≡ n + suc j = omega arith in getD-countUp (suc n) k j (omega arith) ∙ ap suc e
-
--- ---- runs
-
--- what f says from i on
-unfoldable pub runOf : (ℕ → ℕ) → ℕ → ℕ → List ℕ
-runOf f i zero = []
-runOf f i (suc n) = f i ∷ runOf f (suc i) n
-
-length-run : (f : ℕ → ℕ) (i n : ℕ) → length (runOf f i n) ≡ n
-unfolding runOf
-length-run f i zero = refl
-length-run f i (suc n) = ap suc (length-run f (suc i) n)
-
-module _ (m : ℕ → Bool) where
-  count-run : (i n r : ℕ) → ((k : ℕ) → k < i + n → i ≤ k → m k ≡ true) → countKept m i (n + r) ≡ n + countKept m (i + n) r
-  unfolding countKept
-  count-run i zero r f =
-      let e : i ≡ i + 0 = omega arith in let z : 0 + r ≡ r = omega arith in
-      (λ j. countKept m (e j) (z j)) ∙ omega arith
-  count-run i (suc n) r f =
-      let e : suc i + n ≡ i + suc n = omega arith in
-      let z : suc n + r ≡ suc (n + r) = omega arith in
-      let k : m i ≡ true = f i (omega arith) (omega arith) in
-      let ih : countKept m (suc i) (n + r) ≡ n + countKept m (suc i + n) r = count-run (suc i) n r (λ k h j. f k (omega arith) (omega arith)) in
-      ap (countKept m i) z ∙ simp k (ap suc (ih ∙ ap (λ (x : ℕ). n + countKept m x r) e) ∙ omega arith)
-
-  pick-run : (f : ℕ → ℕ) (i n r : ℕ) → ((k : ℕ) → k < i + n → i ≤ k → m k ≡ true) → pickAt m f i (n + r) ≡ runOf f i n ++ pickAt m f (i + n) r
-  unfolding pickAt runOf
-  pick-run f i zero r g = let e : i ≡ i + 0 = omega arith in let z : 0 + r ≡ r = omega arith in (λ j. pickAt m f (e j) (z j))
-  pick-run f i (suc n) r g =
-      let e : suc i + n ≡ i + suc n = omega arith in
-      let z : suc n + r ≡ suc (n + r) = omega arith in
-      let k : m i ≡ true = g i (omega arith) (omega arith) in
-      ap (pickAt m f i) z ∙ simp k (ap (λ (x : List ℕ). f i ∷ x) (pick-run f (suc i) n r (λ k h j. g k (omega arith) (omega arith)) ∙ ap (λ (x : ℕ). runOf f (suc i) n ++ pickAt m f x r) e))
-
-countUp-run : (at n k : ℕ) → countUp at (n + k) ≡ countUp at n ++ countUp (at + n) k
-unfolding countUp
-countUp-run at zero k = let e : at ≡ at + 0 = omega arith in let z : 0 + k ≡ k = omega arith in (λ j. countUp (e j) (z j))
-countUp-run at (suc n) k =
-    let e : suc at + n ≡ at + suc n = omega arith in
-    let z : suc n + k ≡ suc (n + k) = omega arith in
-    ap (countUp at) z ∙ ap (λ (x : List ℕ). suc at ∷ x) (countUp-run (suc at) n k ∙ ap (λ (x : ℕ). countUp (suc at) n ++ countUp x k) e)
-
-run-list : (l : List ℕ) (i n : ℕ) → i + n ≤ length l → runOf (λ (t : ℕ). getD l t 0) i n ≡ take n (drop i l)
-unfolding runOf
-run-list l i zero h = refl
-run-list l i (suc n) h = ap (λ (x : List ℕ). getD l i 0 ∷ x) (run-list l (suc i) n (omega arith)) ∙ sym (ap (take (suc n)) (drop-cons l i 0 (omega arith)))
 
 -- ---- what is left
 

@@ -18,15 +18,11 @@ pub set-over : (vs l : List ℕ) (i a : ℕ) → 0 < length vs → sets (set l i
 set-over [] l i a h = absurd (omega arith)
 set-over (v ∷ vs) l i a h = ap (λ (x : List ℕ). sets x (suc i) vs) (set-set l i a v)
 
--- two runs in either order, and one behind the other as one
+-- two runs in either order
 pub sets-sets : (us vs l : List ℕ) (i k : ℕ) → i + length us ≤ k → sets (sets l i us) k vs ≡ sets (sets l k vs) i us
 sets-sets us [] l i k h = refl
 sets-sets us (v ∷ vs) l i k h =
     ap (λ (x : List ℕ). sets x (suc k) vs) (set-sets us l i k v h) ∙ sets-sets us vs (set l k v) i (suc k) (omega arith)
-
-pub sets-append : (us vs l : List ℕ) (i : ℕ) → sets l i (us ++ vs) ≡ sets (sets l i us) (i + length us) vs
-sets-append [] vs l i = let e : i ≡ i + 0 = omega arith in ap (λ (k : ℕ). sets l k vs) e
-sets-append (u ∷ us) vs l i = let e : suc i + length us ≡ i + suc (length us) = omega arith in sets-append us vs (set l i u) (suc i) ∙ ap (λ (k : ℕ). sets (sets (set l i u) (suc i) us) k vs) e
 
 set-past : (p q : List ℕ) (i a : ℕ) → set (p ++ q) (length p + i) a ≡ p ++ set q i a
 set-past [] q i a = let e : 0 + i ≡ i = omega arith in simp e

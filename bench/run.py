@@ -80,6 +80,15 @@ def answers(command, path, seconds):
         sys.exit("%s: status %d\n%s" % (command, out.returncode, out.stderr))
     return [None if l == "-" else [int(x) for x in l.split()] for l in out.stdout.split("\n")[:-1]]
 
+def both(ours, speed, path, o):
+    """The answers of the two, in turn, so that a busy moment of the machine falls on both; of each case the round with the best run."""
+    mine = theirs = None
+    for _ in range(o.rounds):
+        x, y = answers(ours, path, o.seconds), answers(speed, path, o.seconds)
+        best = lambda old, new: [min(a, b) if a and b else b for a, b in zip(old or new, new)]
+        mine, theirs = best(mine, x), best(theirs, y)
+    return mine, theirs
+
 def machine():
     name = [l.split(":", 1)[1].strip() for l in open("/proc/cpuinfo") if l.startswith("model name")]
     return "%s, %s, %s" % (name[0] if name else platform.machine(), platform.platform(), platform.machine())
@@ -87,14 +96,15 @@ def machine():
 def main():
     p = argparse.ArgumentParser()
     p.add_argument("--sizes", type=int, nargs="+", default=[1024, 65536, 1 << 20])
-    p.add_argument("--seconds", type=float, default=0.3, help="for each case, of each of the two")
+    p.add_argument("--seconds", type=float, default=0.1, help="for each case in each round, of each of the two")
+    p.add_argument("--rounds", type=int, default=8)
     p.add_argument("--docs", default=os.path.join(TOP, "..", "shared", "docs", "src"))
     p.add_argument("--run", default="")
     o = p.parse_args()
     speed, ours = built(o), shlex.split(o.run) + [os.path.join(TOP, "build", "ours")]
     native = platform.machine() == "x86_64" and not o.run
     path = os.path.join(TOP, "build", "cases.bin")
-    print("Machine: %s. Best of the runs within %g s a case.\n" % (machine(), o.seconds))
+    print("Machine: %s. Best of the runs within %d rounds of %g s a case, the two in turn.\n" % (machine(), o.rounds, o.seconds))
     print("| call | shape | records | ours, ns a record | the Rust's | ratio | budget |\n|---|---|---|---|---|---|---|")
     wrong = same = 0
     for n in o.sizes:
@@ -104,7 +114,7 @@ def main():
                 for call, _, a, b in every:
                     for part in ([CALLS.index(call)], [len(a)], [x % TOP64 for x in a], [len(b)], [x % TOP64 for x in b]):
                         array.array("Q", part).tofile(f)
-            mine, theirs = answers(ours, path, o.seconds), answers([speed], path, o.seconds)
+            mine, theirs = both(ours, [speed], path, o)
             for (call, records, _, b), x, y in zip(every, mine, theirs):
                 if x and y and call != "plain merge":
                     same, wrong = same + (x[2] == y[2]), wrong + (x[2] != y[2])

@@ -79,10 +79,6 @@ open-count p times i (suc n) h =
     ∙ by-test (p (getD times i 0)) (λ k. simp (k, ih)) (λ k. simp (k, ih))
 
 module _ (times corners diffEnds : List ℕ) where
-  -- what is counted, once the rule is known
-  pub known : (i n : ℕ) (k j : Keep) → k ≡ j → countKept (timeKept j times corners diffEnds) i n ≡ countKept (timeKept k times corners diffEnds) i n
-  known i n k j e = ap (λ (x : Keep). countKept (timeKept x times corners diffEnds) i n) (sym e)
-
   -- of a filter
   pub count-all : (i n : ℕ) → countKept (hasDiff diffEnds) i n ≡ countKept (timeKept All times corners diffEnds) i n
   count-all i n = count-same (hasDiff diffEnds) (timeKept All times corners diffEnds) i n (λ k a b. by-test (hasDiff diffEnds k) (λ q. simp q) (λ q. simp q))

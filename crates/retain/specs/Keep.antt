@@ -26,11 +26,6 @@ keepsAt Shut times corners i = not (isOpen corners (getD times i 0))
 abbrev pub timeKept : Keep → List ℕ → List ℕ → List ℕ → ℕ → Bool
 timeKept keep times corners diffEnds i = hasDiff diffEnds i && keepsAt keep times corners i
 
--- the open ones, or the others
-abbrev pub sideOf : Bool → Keep
-sideOf false = Open
-sideOf true = Shut
-
 -- whether an item of a list of this level stays: a time by itself, a value by its times
 abbrev pub below : Level → (ℕ → Bool) → List ℕ → ℕ → Bool
 below Values m timeEnds i = m i

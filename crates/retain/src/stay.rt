@@ -4,7 +4,7 @@ ghost use mathlib.Core.Bool.{true, false};
 ghost use Prim.Native.Nat.{ℕ, _+_, _-_, _≤_, _<_};
 ghost use lib.ListN.{length};
 ghost use Rattle.retain.specs.Frontier.{ordered};
-ghost use Rattle.retain.specs.Keep.{keepsAt, timeKept, sideOf, below};
+ghost use Rattle.retain.specs.Keep.{keepsAt, timeKept, below};
 ghost use Rattle.retain.specs.Layers.{bit, countKept, listKept, hasDiff, EndsStep, ListsLeft, Ready};
 ghost use Rattle.chunk.specs.Words.{risesFrom};
 use crate::Keep;
@@ -92,34 +92,7 @@ fn count_each(
     count
 }
 
-// How many of the times of a range, so many of which have a diff, are open, or are not: by the corners alone where each has a diff.
-fn count_under(
-    shut: bool,
-    times: &[u64],
-    corners: &[u64],
-    diff_ends: &[u64],
-    from: usize,
-    to: usize,
-    all: usize,
-) -> usize
-    requires { ⌜ Ready (now times) (now corners) (now «diff_ends») × ((from ≤ to) × (to ≤ length (now «diff_ends»))) ⌝ }
-    requires { ⌜ all ≡ countKept (hasDiff (now «diff_ends»)) from (to - from) ⌝ }
-    ensures { λ r. ⌜ r ≡ countKept (timeKept (sideOf shut) (now (times .entry)) (now (corners .entry)) (now («diff_ends» .entry))) from (to - from) ⌝ }
-{
-    if all == to - from {
-        let open = count_open(&times[from..to], corners);
-        if shut {
-            return all - open;
-        }
-        return open;
-    }
-    if shut {
-        return count_each(Keep::Shut, times, corners, diff_ends, from, to);
-    }
-    count_each(Keep::Open, times, corners, diff_ends, from, to)
-}
-
-// How many of the times of a range stay. Of a filter all that have a diff do.
+// How many of the times of a range stay: by the ends alone where all with a diff do, and by the corners alone where each has a diff.
 fn count_range(
     keep: Keep,
     times: &[u64],
@@ -132,13 +105,23 @@ fn count_range(
     ensures { λ r. ⌜ r ≡ countKept (timeKept keep (now (times .entry)) (now (corners .entry)) (now («diff_ends» .entry))) from (to - from) ⌝ }
 {
     let all = count_diffs(diff_ends, from, to);
+    let full = all == to - from;
     match keep {
-        Keep::All => all,
-        Keep::Below(_) => count_each(keep, times, corners, diff_ends, from, to),
-        Keep::From(_) => count_each(keep, times, corners, diff_ends, from, to),
-        Keep::Open => count_under(false, times, corners, diff_ends, from, to, all),
-        Keep::Shut => count_under(true, times, corners, diff_ends, from, to, all),
+        Keep::All => return all,
+        Keep::Open => {
+            if full {
+                return count_open(&times[from..to], corners);
+            }
+        }
+        Keep::Shut => {
+            if full {
+                return all - count_open(&times[from..to], corners);
+            }
+        }
+        Keep::Below(_) => {}
+        Keep::From(_) => {}
     }
+    count_each(keep, times, corners, diff_ends, from, to)
 }
 
 // How many of the times from one index to another stay.

@@ -1,18 +1,21 @@
 -- The times and their diffs on their way: what is written, with what is left to write and the ends, is the whole.
 use Prim.Native.Nat.{ℕ, zero, suc, _+_, _-_, _<_, _≤_}
 use mathlib.Core.Path.{_≡_, refl, sym, _∙_, ap}
-use mathlib.Core.Bool.{Bool, true, false}
+use mathlib.Core.Bool.{Bool, true, false, _&&_}
 use mathlib.Core.List.{List, [], _∷_, _++_}
 use native.Mathlib.Omega.{arith}
 use lib.Dec.{ltb}
-use lib.ListN.{length, getD, set, length-append, length-set}
-use lib.Seq.{sets}
+use lib.ListN.{length, getD, set, take, drop, length-append, length-set}
+use lib.Seq.{sets, drop-cons, take-all}
 use borrow.Author.Tests.{ltb-true, ltb-false}
 use Rattle.chunk.specs.Contents.{startOf}
 use Rattle.laws.proofs.Lists.{no-length}
 use Rattle.laws.proofs.Tests.{by-test}
 use Rattle.retain.specs.Frontier.{ordered}
 use Rattle.retain.specs.Layers.{countKept, pickAt, countUp, leavesOut, hasDiff, bit, EndsWithin, EndsStep, Ready, Bodies}
+use Rattle.retain.specs.declared.Keep.the-variants.{All}
+use Rattle.retain.specs.Keep.{timeKept}
+use Rattle.retain.proofs.Steps.{count-diffs}
 use Rattle.retain.proofs.Counts.{count-in, count-out, count-none}
 use Rattle.retain.proofs.Stores.{set-sets, set-over, sets-sets, fill-three}
 
@@ -181,6 +184,124 @@ module _ (m : ℕ → Bool) (times diffEnds diffs : List ℕ) where
       let p = w .place in
       let z : (f : ℕ → ℕ) → rest f i ≡ [] = λ f. no-length (rest f i) (let l = rest-length f i in omega arith) in
       simp (z time, z diff) at (w .whole)
+
+-- ---- of a filter
+
+-- every diff is that of a time that has one
+diffs-picked : (ends diffs : List ℕ) (i n : ℕ) → EndsStep ends → i + n ≤ length ends → startOf ends (i + n) ≤ length diffs
+    → pickAt (hasDiff ends) (λ (t : ℕ). getD diffs (startOf ends t) 0) i n ≡ take (countKept (hasDiff ends) i n) (drop (startOf ends i) diffs)
+unfolding pickAt countKept
+diffs-picked ends diffs i zero s h b = refl
+diffs-picked ends diffs i (suc n) s h b =
+    let z : suc i + n ≡ i + suc n = omega arith in
+    let q = ap (startOf ends) z in
+    let ih : pickAt (hasDiff ends) (λ (t : ℕ). getD diffs (startOf ends t) 0) (suc i) n ≡ take (countKept (hasDiff ends) (suc i) n) (drop (getD ends i 0) diffs) =
+    diffs-picked ends diffs (suc i) n s (omega arith) (omega arith) in
+    let g : startOf ends (suc i) ≤ startOf ends (suc i + n) = starts-rise ends (suc i) n s (omega arith) in
+    let lo = s i (omega arith) .0 in
+    let hi = s i (omega arith) .1 in
+    by-test (ltb (startOf ends i) (getD ends i 0))
+    (λ k.
+    let l : startOf ends i < getD ends i 0 = ltb-true _ _ k in
+    let e : getD ends i 0 ≡ suc (startOf ends i) = omega arith in
+    let d : drop (startOf ends i) diffs ≡ getD diffs (startOf ends i) 0 ∷ drop (suc (startOf ends i)) diffs = drop-cons diffs (startOf ends i) 0 (omega arith) in
+    simp k (ap (λ (x : List ℕ). getD diffs (startOf ends i) 0 ∷ x) (ih ∙ ap (λ (x : ℕ). take (countKept (hasDiff ends) (suc i) n) (drop x diffs)) e)
+    ∙ sym (ap (take (suc (countKept (hasDiff ends) (suc i) n))) d)))
+    (λ k.
+    let l : getD ends i 0 ≤ startOf ends i = ltb-false _ _ k in
+    let e : getD ends i 0 ≡ startOf ends i = omega arith in
+    simp k (ih ∙ ap (λ (x : ℕ). take (countKept (hasDiff ends) (suc i) n) (drop x diffs)) e))
+
+module _ (times diffEnds diffs : List ℕ) (rows : length diffEnds ≡ length times) (steps : EndsStep diffEnds) where
+  abbrev has : ℕ → Bool
+  has = hasDiff diffEnds
+
+  abbrev still : ℕ → List ℕ
+  still i = pickAt has (λ (t : ℕ). getD times t 0) i (length times - i)
+
+  -- the times that are written, with those left, the ends and the diffs, are the whole
+  pub record Standing (n : ℕ) (out : List ℕ) (at i : ℕ) : Type 0 where
+    pub here : at ≡ startOf diffEnds i
+    pub place : at + countKept has i (length times - i) ≡ n
+    pub room : length out ≡ n + (n + n)
+    pub whole : sets (sets (sets out at (still i)) n (countUp 0 n)) (n + n) diffs ≡ leavesOut has times diffEnds diffs
+
+  pub standing-start : (n : ℕ) (out : List ℕ) → n ≡ countKept has 0 (length times) → length diffs ≡ n → length out ≡ n + (n + n) → Standing n out 0 0
+  standing-start n out e d h =
+      let z : length times - 0 ≡ length times = omega arith in
+      let y : 0 + length times ≡ length diffEnds = omega arith in
+      let I : List ℕ = pickAt has (λ (t : ℕ). getD times t 0) 0 (length times) in
+      let li : length I ≡ countKept has 0 (length times) = length-pickAt has (λ (t : ℕ). getD times t 0) 0 (length times) in
+      let le : length (countUp 0 n) ≡ n = length-countUp 0 n in
+      let c : countKept has 0 (length times) + 0 ≡ startOf diffEnds (0 + length times) = count-diffs diffEnds 0 (length times) steps (omega arith) in
+      let p : pickAt has (λ (t : ℕ). getD diffs (startOf diffEnds t) 0) 0 (length times) ≡ take (countKept has 0 (length times)) diffs =
+      diffs-picked diffEnds diffs 0 (length times) steps (omega arith) (omega arith) in
+      let w : take (countKept has 0 (length times)) diffs ≡ diffs = take-all (countKept has 0 (length times)) diffs (omega arith) in
+      record {
+        here = refl;
+        place = simp z (omega arith);
+        room = h;
+        whole =
+            simp z
+            (fill-three I (countUp 0 n) diffs out n (n + n) (omega arith) (omega arith) (omega arith)
+            ∙ ap (λ (k : ℕ). I ++ (countUp 0 k ++ diffs)) e
+            ∙ ap (λ (x : List ℕ). I ++ (countUp 0 (countKept has 0 (length times)) ++ x)) (sym (p ∙ w)));
+      }
+
+  pub standing-within : (n : ℕ) (out : List ℕ) (at i : ℕ) → Standing n out at i → at < n → i < length times
+  standing-within n out at i w h =
+      by-test (ltb i (length times)) (λ k. ltb-true _ _ k)
+      (λ k. let p = w .place in let z = count-none has i (length times) (ltb-false _ _ k) in absurd (omega arith))
+
+  pub standing-turn : (n : ℕ) (out : List ℕ) (at i : ℕ) → Standing n out at i → at < n → Standing n (set out at (getD times i 0)) (getD diffEnds i 0) (i + 1)
+  standing-turn n out at i w h =
+      let l : i < length times = standing-within n out at i w h in
+      let a = w .here in
+      let p = w .place in
+      let lo = steps i (omega arith) .0 in
+      let hi = steps i (omega arith) .1 in
+      let s : i + 1 ≡ suc i = omega arith in
+      let li : length (still (i + 1)) ≡ countKept has (i + 1) (length times - (i + 1)) = length-pickAt has (λ (t : ℕ). getD times t 0) (i + 1) (length times - (i + 1)) in
+      by-test (ltb (startOf diffEnds i) (getD diffEnds i 0))
+      (λ k.
+      let b : startOf diffEnds i < getD diffEnds i 0 = ltb-true _ _ k in
+      let e : getD diffEnds i 0 ≡ suc at = omega arith in
+      let c : countKept has i (length times - i) ≡ suc (countKept has (i + 1) (length times - (i + 1))) = count-in has i (length times) l k in
+      let t : still i ≡ getD times i 0 ∷ still (i + 1) = pick-in has (λ (j : ℕ). getD times j 0) i (length times) l k in
+      record {
+        here = ap (startOf diffEnds) (sym s);
+        place = omega arith;
+        room = length-set out at (getD times i 0) ∙ w .room;
+        whole = ap (λ (x : ℕ). sets (sets (sets (set out at (getD times i 0)) x (still (i + 1))) n (countUp 0 n)) (n + n) diffs) e
+            ∙ sym (ap (λ (x : List ℕ). sets (sets (sets out at x) n (countUp 0 n)) (n + n) diffs) t) ∙ w .whole;
+      })
+      (λ k.
+      let b : getD diffEnds i 0 ≤ startOf diffEnds i = ltb-false _ _ k in
+      let e : getD diffEnds i 0 ≡ at = omega arith in
+      let c : countKept has i (length times - i) ≡ countKept has (i + 1) (length times - (i + 1)) = count-out has i (length times) l k in
+      let t : still i ≡ still (i + 1) = pick-out has (λ (j : ℕ). getD times j 0) i (length times) l k in
+      record {
+        here = ap (startOf diffEnds) (sym s);
+        place = omega arith;
+        room = length-set out at (getD times i 0) ∙ w .room;
+        whole = ap (λ (x : ℕ). sets (sets (sets (set out at (getD times i 0)) x (still (i + 1))) n (countUp 0 n)) (n + n) diffs) e
+            ∙ ap (λ (x : List ℕ). sets (sets x n (countUp 0 n)) (n + n) diffs) (set-over (still (i + 1)) out at (getD times i 0) (omega arith))
+            ∙ sym (ap (λ (x : List ℕ). sets (sets (sets out at x) n (countUp 0 n)) (n + n) diffs) t) ∙ w .whole;
+      })
+
+  pub standing-end : (n : ℕ) (out : List ℕ) (at i : ℕ) → Standing n out at i → n ≤ at → sets (sets out n (countUp 0 n)) (n + n) diffs ≡ leavesOut has times diffEnds diffs
+  standing-end n out at i w h =
+      let p = w .place in
+      let l = length-pickAt has (λ (t : ℕ). getD times t 0) i (length times - i) in
+      let z : still i ≡ [] = no-length (still i) (omega arith) in
+      simp z at (w .whole)
+
+-- where all stay, those with a diff do
+pub all-stay : (times corners diffEnds : List ℕ) → hasDiff diffEnds ≡ timeKept All times corners diffEnds
+all-stay times corners diffEnds = λ j i. and-true-right (hasDiff diffEnds i) j
+  where
+    and-true-right : (b : Bool) → b ≡ (b && true)
+    and-true-right b = by-test b (λ k. simp k) (λ k. simp k)
 
 -- the leaves' words: a time, an end and a diff of each
 pub length-leavesOut : (m : ℕ → Bool) (times diffEnds diffs : List ℕ) (n : ℕ) → n ≡ countKept m 0 (length times) → length (leavesOut m times diffEnds diffs) ≡ n + (n + n)

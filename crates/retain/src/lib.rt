@@ -7,7 +7,7 @@ ghost use Rattle.retain.specs.Found.{emptyFrontier, keptBy};
 ghost use Rattle.chunk.specs.Entry.{keep};
 ghost use Rattle.retain.specs.Answer.{verdictBy, refusedBy, Parted, Extraction};
 ghost use Rattle.retain.specs.Keep.{keepsAt, timeKept, below, retainedOf};
-ghost use Rattle.retain.specs.Layers.{countKept, listKept, nodes, itemOf, nodesOut, leavesOut, EndsWithin, Ready, Bodies, Left, layersOut};
+ghost use Rattle.retain.specs.Layers.{countKept, listKept, nodes, itemOf, nodesOut, leavesOut, hasDiff, EndsStep, EndsWithin, Ready, Bodies, Left, layersOut};
 ghost use Rattle.chunk.specs.Words.{risesFrom, wellFormed, settled, size, over, entries};
 ghost use Rattle.chunk.specs.Contents.{Placed};
 ghost use Rattle.chunk.specs.Bodies.{chunkOf};
@@ -23,6 +23,7 @@ use runs::copy;
 use runs::count_up;
 use stay::count_below;
 use stay::count_lists;
+use stay::is_all;
 use stay::kept_bit;
 
 mod climb;
@@ -129,6 +130,48 @@ fn write_leaves(
     count_up(0, n, out, n);
 }
 
+// Writes what stays of a filter: the times that have a diff, after them the ends of their lists, and after these all diffs. Up to each time so many
+// have one as diffs end there.
+fn write_standing(times: &[u64], diff_ends: &[u64], diffs: &[u64], n: usize, out: &mut [u64])
+    requires { ⌜ (length (now «diff_ends») ≡ length (now times)) × EndsStep (now «diff_ends») ⌝ }
+    requires { ⌜ (n ≡ countKept (hasDiff (now «diff_ends»)) 0 (length (now times))) × ((length (now diffs) ≡ n) × (length (now out) ≡ n + (n + n))) ⌝ }
+    ensures { λ _. ⌜ now (out .exit) ≡ leavesOut (hasDiff (now («diff_ends» .entry))) (now (times .entry)) (now («diff_ends» .entry)) (now (diffs .entry)) ⌝ }
+{
+    let mut at = 0;
+    let mut i = 0;
+    while at < n {
+        out[at] = times[i];
+        at = diff_ends[i] as usize;
+        i += 1;
+    }
+    count_up(0, n, out, n);
+    copy(diffs, out, n + n);
+}
+
+// Writes the times that stay, after them the ends of their lists, and after these their diffs, one each.
+fn write_times(
+    keep: Keep,
+    times: &[u64],
+    corners: &[u64],
+    diff_ends: &[u64],
+    diffs: &[u64],
+    n: usize,
+    out: &mut [u64],
+)
+    requires { ⌜ Ready (now times) (now corners) (now «diff_ends») × (length (now «diff_ends») ≡ length (now times)) ⌝ }
+    requires { ⌜ EndsWithin (now «diff_ends») (length (now diffs)) ⌝ }
+    requires { ⌜ (n ≡ countKept (timeKept keep (now times) (now corners) (now «diff_ends»)) 0 (length (now times))) × (length (now out) ≡ n + (n + n)) ⌝ }
+    ensures { λ _. ⌜ now (out .exit) ≡ leavesOut (timeKept keep (now (times .entry)) (now (corners .entry)) (now («diff_ends» .entry))) (now (times .entry)) (now («diff_ends» .entry)) (now (diffs .entry)) ⌝ }
+{
+    if diffs.len() == n {
+        if is_all(keep) {
+            write_standing(times, diff_ends, diffs, n, out);
+            return;
+        }
+    }
+    write_leaves(keep, times, corners, diff_ends, diffs, n, out);
+}
+
 // Writes the table of these counts, and each layer into its own part.
 fn write_bodies(
     keep: Keep,
@@ -180,7 +223,7 @@ fn write_bodies(
         nv,
         &mut out[vals_at..times_at],
     );
-    write_leaves(
+    write_times(
         keep,
         times,
         corners,

@@ -3,6 +3,7 @@ ghost use mathlib.Core.Path.{_≡_};
 ghost use mathlib.Core.Bool.{true, false};
 ghost use Prim.Native.Nat.{ℕ, _+_, _-_, _≤_, _<_};
 ghost use lib.ListN.{length};
+ghost use Rattle.retain.specs.declared.Keep.the-variants.{All};
 ghost use Rattle.retain.specs.Frontier.{ordered};
 ghost use Rattle.retain.specs.Keep.{keepsAt, timeKept, below};
 ghost use Rattle.retain.specs.Layers.{bit, countKept, listKept, hasDiff, EndsStep, ListsLeft, Ready};
@@ -21,6 +22,19 @@ fn bit_of(b: bool) -> usize
         return 1;
     }
     0
+}
+
+// Whether every time that has a diff stays.
+pub(crate) fn is_all(keep: Keep) -> bool
+    ensures { λ r. ⌜ (r ≡ true → keep ≡ All) ⌝ }
+{
+    match keep {
+        Keep::All => true,
+        Keep::Below(_) => false,
+        Keep::From(_) => false,
+        Keep::Open => false,
+        Keep::Shut => false,
+    }
 }
 
 // 1 where a time that has a diff stays, else 0.

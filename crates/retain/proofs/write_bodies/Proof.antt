@@ -53,20 +53,20 @@ write-nodes-requires-2 c κs =
     let b = a .pre .1 .0 in
     (ready _ _ _ _ _ _ _ _ b (a .pre .0), ((b .valRows, b .timeEndsRise), (f .valsLeft, part-length _ _ _ (a .args .nv + a .args .nv) (u .vals) (within-as _ _ _ (u .valsIn) (c .before .before .out2 .given .1 ∙ c .before .before .before .before .before .before .before .write-table .kept .0)))))
 
-mul-write-leaves : tie.Need-mul-write-leaves
-mul-write-leaves c = let a = c .before .before .before .before .before .before .before .before .before .before .before .before .before .before .before .before .before .before .before .before .before .before in let f = a .pre .1 .1 in let u = out-cuts _ (a .args .nk) (a .args .nv) (a .args .nt) _ (c .before .before .before .before .before .before .before .before .before .before .before .before .layout .ensures) (f .fewKeys) (f .fewVals) (f .fewTimes) (f .fits) in u .timesSmall
+mul-write-times : tie.Need-mul-write-times
+mul-write-times c = let a = c .before .before .before .before .before .before .before .before .before .before .before .before .before .before .before .before .before .before .before .before .before .before in let f = a .pre .1 .1 in let u = out-cuts _ (a .args .nk) (a .args .nv) (a .args .nt) _ (c .before .before .before .before .before .before .before .before .before .before .before .before .layout .ensures) (f .fewKeys) (f .fewVals) (f .fewTimes) (f .fits) in u .timesSmall
 
-sub-write-leaves : tie.Need-sub-write-leaves
-sub-write-leaves c = let a = c .before .before .before .before .before .before .before .before .before .before .before .before .before .before .before .before .before .before .before .before .before .before in let f = a .pre .1 .1 in let u = out-cuts _ (a .args .nk) (a .args .nv) (a .args .nt) _ (c .before .before .before .before .before .before .before .before .before .before .before .before .layout .ensures) (f .fewKeys) (f .fewVals) (f .fewTimes) (f .fits) in up-to _ _ _ (u .times)
+sub-write-times : tie.Need-sub-write-times
+sub-write-times c = let a = c .before .before .before .before .before .before .before .before .before .before .before .before .before .before .before .before .before .before .before .before .before .before in let f = a .pre .1 .1 in let u = out-cuts _ (a .args .nk) (a .args .nv) (a .args .nt) _ (c .before .before .before .before .before .before .before .before .before .before .before .before .layout .ensures) (f .fewKeys) (f .fewVals) (f .fewTimes) (f .fits) in up-to _ _ _ (u .times)
 
-part-write-leaves-start : tie.Need-part-write-leaves-start
-part-write-leaves-start c = let a = c .before .before .before .before .before .before .before .before .before .before .before .before .before .before .before .before .before .before .before .before .before .before in let f = a .pre .1 .1 in let u = out-cuts _ (a .args .nk) (a .args .nv) (a .args .nt) _ (c .before .before .before .before .before .before .before .before .before .before .before .before .layout .ensures) (f .fewKeys) (f .fewVals) (f .fewTimes) (f .fits) in up-to _ _ _ (u .times)
+part-write-times-start : tie.Need-part-write-times-start
+part-write-times-start c = let a = c .before .before .before .before .before .before .before .before .before .before .before .before .before .before .before .before .before .before .before .before .before .before in let f = a .pre .1 .1 in let u = out-cuts _ (a .args .nk) (a .args .nv) (a .args .nt) _ (c .before .before .before .before .before .before .before .before .before .before .before .before .layout .ensures) (f .fewKeys) (f .fewVals) (f .fewTimes) (f .fits) in up-to _ _ _ (u .times)
 
-part-write-leaves-end : tie.Need-part-write-leaves-end
-part-write-leaves-end c = let a = c .before .before .before .before .before .before .before .before .before .before .before .before .before .before .before .before .before .before .before .before .before .before in let f = a .pre .1 .1 in let u = out-cuts _ (a .args .nk) (a .args .nv) (a .args .nt) _ (c .before .before .before .before .before .before .before .before .before .before .before .before .layout .ensures) (f .fewKeys) (f .fewVals) (f .fewTimes) (f .fits) in within-as _ _ _ (u .timesIn) (c .before .out3 .given .1 ∙ c .before .before .before .before .before .out2 .given .1 ∙ c .before .before .before .before .before .before .before .before .before .before .write-table .kept .0)
+part-write-times-end : tie.Need-part-write-times-end
+part-write-times-end c = let a = c .before .before .before .before .before .before .before .before .before .before .before .before .before .before .before .before .before .before .before .before .before .before in let f = a .pre .1 .1 in let u = out-cuts _ (a .args .nk) (a .args .nv) (a .args .nt) _ (c .before .before .before .before .before .before .before .before .before .before .before .before .layout .ensures) (f .fewKeys) (f .fewVals) (f .fewTimes) (f .fits) in within-as _ _ _ (u .timesIn) (c .before .out3 .given .1 ∙ c .before .before .before .before .before .out2 .given .1 ∙ c .before .before .before .before .before .before .before .before .before .before .write-table .kept .0)
 
-write-leaves-requires : tie.Need-write-leaves-requires
-write-leaves-requires c κs =
+write-times-requires : tie.Need-write-times-requires
+write-times-requires c κs =
     let a = c .before .before .before .before .before .before .before .before .before .before .before .before .before .before .before .before .before .before .before .before .before .before .before in let f = a .pre .1 .1 in let u = out-cuts _ (a .args .nk) (a .args .nv) (a .args .nt) _ (c .before .before .before .before .before .before .before .before .before .before .before .before .before .layout .ensures) (f .fewKeys) (f .fewVals) (f .fewTimes) (f .fits) in
     let b = a .pre .1 .0 in
     ((ready _ _ _ _ _ _ _ _ b (a .pre .0), b .timeRows), (b .diffsWithin, (f .timesLeft, part-length _ _ _ (a .args .nt + (a .args .nt + a .args .nt)) (u .times) (within-as _ _ _ (u .timesIn) (c .before .before .out3 .given .1 ∙ c .before .before .before .before .before .before .out2 .given .1 ∙ c .before .before .before .before .before .before .before .before .before .before .before .write-table .kept .0)))))
@@ -80,7 +80,7 @@ returns c =
     let l = c .before .before .before .before .before .before .before .before .before .before .before .before .before .before .before .before .layout in
     put-all (a .args .out .now) _ (tableOf (a .args .nk) (a .args .nv) (a .args .nt) (a .args .nt)) _ _ _ _ _ _ (l .result .«keys_at») (l .result .«vals_at») (l .result .«times_at») (l .result .size)
     (c .before .before .before .before .before .before .before .before .before .before .before .before .before .before .write-table .ensures ∙ table-front (a .args .nk) (a .args .nv) (a .args .nt) (a .args .nt) (a .args .out .now) (u .tableIn))
-    (c .before .before .before .before .before .before .before .before .before .before .write-nodes .ensures) (c .before .before .before .before .before .before .write-nodes2 .ensures) (c .before .before .write-leaves .ensures)
+    (c .before .before .before .before .before .before .before .before .before .before .write-nodes .ensures) (c .before .before .before .before .before .before .write-nodes2 .ensures) (c .before .before .write-times .ensures)
     (u .keysAt)
     (u .keys ∙ ap (λ (n : ℕ). l .result .«keys_at» + n) (sym (length-nodesOut _ (a .args .keys .now) (a .args .val-ends .now) (a .args .nk) (f .keysLeft))))
     (u .vals ∙ ap (λ (n : ℕ). l .result .«vals_at» + n) (sym (length-nodesOut _ (a .args .vals .now) (a .args .time-ends .now) (a .args .nv) (f .valsLeft))))
@@ -102,10 +102,10 @@ write-bodies-spec =
     part-write-nodes-start-2
     part-write-nodes-end-2
     write-nodes-requires-2
-    mul-write-leaves
-    sub-write-leaves
-    part-write-leaves-start
-    part-write-leaves-end
-    write-leaves-requires
+    mul-write-times
+    sub-write-times
+    part-write-times-start
+    part-write-times-end
+    write-times-requires
     same-length
     returns)

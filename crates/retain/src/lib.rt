@@ -15,6 +15,7 @@ ghost use Rattle.retain.specs.Cut.{filterNumber, filterOut, Split};
 use chunk::Contents;
 use climb::add_corner;
 use look::count_open;
+use look::in_order;
 use look::is_open;
 use one_by_one::scan_corners;
 use ranges::range_of;
@@ -469,29 +470,6 @@ fn kept_corners(times: &[u64], upper: &[u64]) -> Kept
         number,
         frontier,
     }
-}
-
-// Whether corners stand in order: ignitions rising strictly and ticks falling strictly.
-fn in_order(corners: &[u64]) -> bool
-    ensures { λ r. ⌜ r ≡ ordered (now (corners .entry)) ⌝ }
-{
-    if corners.len() == 0 {
-        return true;
-    }
-    let mut last = corners[0];
-    let mut i = 1;
-    while i < corners.len() {
-        let next = corners[i];
-        if next / 0x1_0000_0000 <= last / 0x1_0000_0000 {
-            return false;
-        }
-        if last % 0x1_0000_0000 <= next % 0x1_0000_0000 {
-            return false;
-        }
-        last = next;
-        i += 1;
-    }
-    true
 }
 
 // Whether a frontier has at most as many corners as it may, in order. The places past them are ignored.

@@ -87,3 +87,26 @@ pub(crate) fn count_open(times: &[u64], upper: &[u64]) -> usize
     }
     number
 }
+
+// Whether corners stand in order: ignitions rising strictly and ticks falling strictly.
+pub(crate) fn in_order(corners: &[u64]) -> bool
+    ensures { λ r. ⌜ r ≡ ordered (now (corners .entry)) ⌝ }
+{
+    if corners.len() == 0 {
+        return true;
+    }
+    let mut last = corners[0];
+    let mut i = 1;
+    while i < corners.len() {
+        let next = corners[i];
+        if next / 0x1_0000_0000 <= last / 0x1_0000_0000 {
+            return false;
+        }
+        if last % 0x1_0000_0000 <= next % 0x1_0000_0000 {
+            return false;
+        }
+        last = next;
+        i += 1;
+    }
+    true
+}

@@ -13,10 +13,10 @@ use Rattle.chunk.specs.Entry as entry
 use Rattle.laws.proofs.Tests.{and-false}
 use Rattle.retain.specs.Frontier.{ordered}
 use borrow.Author.Needs.{needs}
-use Rattle.retain.proofs.in_order.Statement.{statement}
-use Rattle.retain.proofs.in_order.Tie as tie
-use Rattle.retain.proofs.in_order.Reads as reads
-use Rattle.retain.proofs.in_order.Lts as lts
+use Rattle.retain.proofs.look.in_order.Statement.{statement}
+use Rattle.retain.proofs.look.in_order.Tie as tie
+use Rattle.retain.proofs.look.in_order.Reads as reads
+use Rattle.retain.proofs.look.in_order.Lts as lts
 
 none : (l : List ℕ) → length l ≡ 0 → true ≡ ordered l
 unfolding ordered

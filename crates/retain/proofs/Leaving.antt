@@ -5,18 +5,16 @@ use mathlib.Core.Bool.{Bool, true, false, _&&_}
 use mathlib.Core.List.{List, [], _∷_, _++_}
 use native.Mathlib.Omega.{arith}
 use lib.Dec.{ltb}
-use lib.ListN.{length, getD, set, take, drop, length-append, length-set}
-use lib.Seq.{sets, drop-cons, take-all}
+use lib.ListN.{length, getD, set, length-append, length-set}
+use lib.Seq.{sets}
 use borrow.Author.Tests.{ltb-true, ltb-false}
 use Rattle.chunk.specs.Contents.{startOf}
 use Rattle.laws.proofs.Lists.{no-length}
 use Rattle.laws.proofs.Tests.{by-test}
 use Rattle.retain.specs.Frontier.{ordered}
 use Rattle.retain.specs.Layers.{countKept, pickAt, countUp, leavesOut, hasDiff, bit, EndsWithin, EndsStep, Ready, Bodies}
-use Rattle.retain.specs.declared.Keep.the-variants.{All}
-use Rattle.retain.specs.Keep.{timeKept}
-use Rattle.retain.proofs.Steps.{count-diffs}
-use Rattle.retain.proofs.Counts.{count-in, count-out, count-none}
+use Rattle.retain.specs.Onward.{Leaving}
+use Rattle.retain.proofs.Counts.{count-in, count-out, count-none, count-add}
 use Rattle.retain.proofs.Stores.{set-sets, set-over, sets-sets, fill-three}
 
 length-pickAt : (m : ℕ → Bool) (f : ℕ → ℕ) (i n : ℕ) → length (pickAt m f i n) ≡ countKept m i n
@@ -69,6 +67,13 @@ starts-rise ends i (suc d) s h =
     let e : startOf ends (i + suc d) ≡ getD ends (i + d) 0 = let z : i + suc d ≡ suc (i + d) = omega arith in ap (startOf ends) z in
     omega arith
 
+-- what is counted from i on is what is counted up to j and from there
+pub count-from : (m : ℕ → Bool) (i j to : ℕ) → i ≤ j → j ≤ to → countKept m i (to - i) ≡ countKept m i (j - i) + countKept m j (to - j)
+count-from m i j to h g =
+    let z : to - i ≡ (j - i) + (to - j) = omega arith in
+    let y : i + (j - i) ≡ j = omega arith in
+    ap (countKept m i) z ∙ count-add m i (j - i) (to - j) ∙ ap (λ (k : ℕ). countKept m i (j - i) + countKept m k (to - j)) y
+
 module _ (m : ℕ → Bool) (times diffEnds diffs : List ℕ) where
   abbrev time : ℕ → ℕ
   time t = getD times t 0
@@ -87,12 +92,7 @@ module _ (m : ℕ → Bool) (times diffEnds diffs : List ℕ) where
   rest-length : (f : ℕ → ℕ) (i : ℕ) → length (rest f i) ≡ left i
   rest-length f i = length-pickAt m f i (length times - i)
 
-  pub record Leaving (n : ℕ) (out : List ℕ) (at i : ℕ) : Type 0 where
-    pub place : at + left i ≡ n
-    pub room : length out ≡ n + (n + n)
-    pub whole : sets (sets (sets out at (rest time i)) (n + n + at) (rest diff i)) n (countUp 0 n) ≡ leavesOut m times diffEnds diffs
-
-  pub leaving-start : (n : ℕ) (out : List ℕ) → n ≡ countKept m 0 (length times) → length out ≡ n + (n + n) → Leaving n out 0 0
+  pub leaving-start : (n : ℕ) (out : List ℕ) → n ≡ countKept m 0 (length times) → length out ≡ n + (n + n) → Leaving m times diffEnds diffs n out 0 0
   leaving-start n out e h =
       let z : length times - 0 ≡ length times = omega arith in
       let I : List ℕ = pickAt m time 0 (length times) in
@@ -110,13 +110,13 @@ module _ (m : ℕ → Bool) (times diffEnds diffs : List ℕ) where
             ∙ ap (λ (k : ℕ). I ++ (countUp 0 k ++ D)) e);
       }
 
-  pub leaving-within : (n : ℕ) (out : List ℕ) (at i : ℕ) → Leaving n out at i → at < n → i < length times
+  pub leaving-within : (n : ℕ) (out : List ℕ) (at i : ℕ) → Leaving m times diffEnds diffs n out at i → at < n → i < length times
   leaving-within n out at i w h =
       by-test (ltb i (length times)) (λ k. ltb-true _ _ k)
       (λ k. let p = w .place in let z = count-none m i (length times) (ltb-false _ _ k) in absurd (omega arith))
 
   -- a diff is there to be read while one is left
-  pub leaving-diff : (n : ℕ) (out : List ℕ) (at i : ℕ) → Leaving n out at i → at < n → length diffEnds ≡ length times → EndsStep diffEnds → EndsWithin diffEnds (length diffs)
+  pub leaving-diff : (n : ℕ) (out : List ℕ) (at i : ℕ) → Leaving m times diffEnds diffs n out at i → at < n → length diffEnds ≡ length times → EndsStep diffEnds → EndsWithin diffEnds (length diffs)
       → ((k : ℕ) → m k ≡ true → hasDiff diffEnds k ≡ true) → startOf diffEnds i < length diffs
   leaving-diff n out at i w h rows s b has =
       let p = w .place in
@@ -128,8 +128,8 @@ module _ (m : ℕ → Bool) (times diffEnds diffs : List ℕ) where
       omega arith
 
   -- a time and its diff are written; they count where the time stays
-  leaving-turn : (n : ℕ) (out : List ℕ) (at i : ℕ) → Leaving n out at i → at < n
-      → Leaving n (set (set out at (time i)) (n + n + at) (diff i)) (at + bit (m i)) (i + 1)
+  leaving-turn : (n : ℕ) (out : List ℕ) (at i : ℕ) → Leaving m times diffEnds diffs n out at i → at < n
+      → Leaving m times diffEnds diffs n (set (set out at (time i)) (n + n + at) (diff i)) (at + bit (m i)) (i + 1)
   unfolding bit
   leaving-turn n out at i w h =
       let l : i < length times = leaving-within n out at i w h in
@@ -175,133 +175,37 @@ module _ (m : ℕ → Bool) (times diffEnds diffs : List ℕ) where
             ∙ w .whole);
       }))
 
-  pub leaving-next : (n : ℕ) (out : List ℕ) (at i lower b : ℕ) → Leaving n out at i → at < n → lower ≡ startOf diffEnds i → b ≡ bit (m i)
-      → Leaving n (set (set out at (time i)) (n + n + at) (getD diffs lower 0)) (at + b) (i + 1)
+  pub leaving-next : (n : ℕ) (out : List ℕ) (at i lower b : ℕ) → Leaving m times diffEnds diffs n out at i → at < n → lower ≡ startOf diffEnds i → b ≡ bit (m i)
+      → Leaving m times diffEnds diffs n (set (set out at (time i)) (n + n + at) (getD diffs lower 0)) (at + b) (i + 1)
   leaving-next n out at i lower b w h e q = rw (e, q) (leaving-turn n out at i w h)
 
-  pub leaving-end : (n : ℕ) (out : List ℕ) (at i : ℕ) → Leaving n out at i → n ≤ at → sets out n (countUp 0 n) ≡ leavesOut m times diffEnds diffs
+  -- once all are written none is left
+  pub leaving-done : (n : ℕ) (out : List ℕ) (at i j : ℕ) → Leaving m times diffEnds diffs n out at i → n ≤ at → i ≤ j → j ≤ length times → Leaving m times diffEnds diffs n out at j
+  leaving-done n out at i j w h g b =
+      let p = w .place in
+      let q = count-from m i j (length times) g b in
+      let z : (k : ℕ) → left k ≡ 0 → (f : ℕ → ℕ) → rest f k ≡ [] = λ k e f. no-length (rest f k) (let l = rest-length f k in omega arith) in
+      let zi : left i ≡ 0 = omega arith in
+      let zj : left j ≡ 0 = omega arith in
+      record {
+        place = omega arith;
+        room = w .room;
+        whole = (λ k. sets (sets (sets out at ((z j zj time ∙ sym (z i zi time)) k)) (n + n + at) ((z j zj diff ∙ sym (z i zi diff)) k)) n (countUp 0 n)) ∙ w .whole;
+      }
+
+  -- so many more are written as stay in between
+  pub leaving-more : (n : ℕ) (out out' : List ℕ) (at at' i j : ℕ) → Leaving m times diffEnds diffs n out at i → Leaving m times diffEnds diffs n out' at' j → i ≤ j → j ≤ length times
+      → at' ≡ at + countKept m i (j - i)
+  leaving-more n out out' at at' i j w v g b =
+      let p = w .place in
+      let r = v .place in
+      let q = count-from m i j (length times) g b in omega arith
+
+  pub leaving-end : (n : ℕ) (out : List ℕ) (at i : ℕ) → Leaving m times diffEnds diffs n out at i → n ≤ at → sets out n (countUp 0 n) ≡ leavesOut m times diffEnds diffs
   leaving-end n out at i w h =
       let p = w .place in
       let z : (f : ℕ → ℕ) → rest f i ≡ [] = λ f. no-length (rest f i) (let l = rest-length f i in omega arith) in
       simp (z time, z diff) at (w .whole)
-
--- ---- of a filter
-
--- every diff is that of a time that has one
-diffs-picked : (ends diffs : List ℕ) (i n : ℕ) → EndsStep ends → i + n ≤ length ends → startOf ends (i + n) ≤ length diffs
-    → pickAt (hasDiff ends) (λ (t : ℕ). getD diffs (startOf ends t) 0) i n ≡ take (countKept (hasDiff ends) i n) (drop (startOf ends i) diffs)
-unfolding pickAt countKept
-diffs-picked ends diffs i zero s h b = refl
-diffs-picked ends diffs i (suc n) s h b =
-    let z : suc i + n ≡ i + suc n = omega arith in
-    let q = ap (startOf ends) z in
-    let ih : pickAt (hasDiff ends) (λ (t : ℕ). getD diffs (startOf ends t) 0) (suc i) n ≡ take (countKept (hasDiff ends) (suc i) n) (drop (getD ends i 0) diffs) =
-    diffs-picked ends diffs (suc i) n s (omega arith) (omega arith) in
-    let g : startOf ends (suc i) ≤ startOf ends (suc i + n) = starts-rise ends (suc i) n s (omega arith) in
-    let lo = s i (omega arith) .0 in
-    let hi = s i (omega arith) .1 in
-    by-test (ltb (startOf ends i) (getD ends i 0))
-    (λ k.
-    let l : startOf ends i < getD ends i 0 = ltb-true _ _ k in
-    let e : getD ends i 0 ≡ suc (startOf ends i) = omega arith in
-    let d : drop (startOf ends i) diffs ≡ getD diffs (startOf ends i) 0 ∷ drop (suc (startOf ends i)) diffs = drop-cons diffs (startOf ends i) 0 (omega arith) in
-    simp k (ap (λ (x : List ℕ). getD diffs (startOf ends i) 0 ∷ x) (ih ∙ ap (λ (x : ℕ). take (countKept (hasDiff ends) (suc i) n) (drop x diffs)) e)
-    ∙ sym (ap (take (suc (countKept (hasDiff ends) (suc i) n))) d)))
-    (λ k.
-    let l : getD ends i 0 ≤ startOf ends i = ltb-false _ _ k in
-    let e : getD ends i 0 ≡ startOf ends i = omega arith in
-    simp k (ih ∙ ap (λ (x : ℕ). take (countKept (hasDiff ends) (suc i) n) (drop x diffs)) e))
-
-module _ (times diffEnds diffs : List ℕ) (rows : length diffEnds ≡ length times) (steps : EndsStep diffEnds) where
-  abbrev has : ℕ → Bool
-  has = hasDiff diffEnds
-
-  abbrev still : ℕ → List ℕ
-  still i = pickAt has (λ (t : ℕ). getD times t 0) i (length times - i)
-
-  -- the times that are written, with those left, the ends and the diffs, are the whole
-  pub record Standing (n : ℕ) (out : List ℕ) (at i : ℕ) : Type 0 where
-    pub here : at ≡ startOf diffEnds i
-    pub place : at + countKept has i (length times - i) ≡ n
-    pub room : length out ≡ n + (n + n)
-    pub whole : sets (sets (sets out at (still i)) n (countUp 0 n)) (n + n) diffs ≡ leavesOut has times diffEnds diffs
-
-  pub standing-start : (n : ℕ) (out : List ℕ) → n ≡ countKept has 0 (length times) → length diffs ≡ n → length out ≡ n + (n + n) → Standing n out 0 0
-  standing-start n out e d h =
-      let z : length times - 0 ≡ length times = omega arith in
-      let y : 0 + length times ≡ length diffEnds = omega arith in
-      let I : List ℕ = pickAt has (λ (t : ℕ). getD times t 0) 0 (length times) in
-      let li : length I ≡ countKept has 0 (length times) = length-pickAt has (λ (t : ℕ). getD times t 0) 0 (length times) in
-      let le : length (countUp 0 n) ≡ n = length-countUp 0 n in
-      let c : countKept has 0 (length times) + 0 ≡ startOf diffEnds (0 + length times) = count-diffs diffEnds 0 (length times) steps (omega arith) in
-      let p : pickAt has (λ (t : ℕ). getD diffs (startOf diffEnds t) 0) 0 (length times) ≡ take (countKept has 0 (length times)) diffs =
-      diffs-picked diffEnds diffs 0 (length times) steps (omega arith) (omega arith) in
-      let w : take (countKept has 0 (length times)) diffs ≡ diffs = take-all (countKept has 0 (length times)) diffs (omega arith) in
-      record {
-        here = refl;
-        place = simp z (omega arith);
-        room = h;
-        whole =
-            simp z
-            (fill-three I (countUp 0 n) diffs out n (n + n) (omega arith) (omega arith) (omega arith)
-            ∙ ap (λ (k : ℕ). I ++ (countUp 0 k ++ diffs)) e
-            ∙ ap (λ (x : List ℕ). I ++ (countUp 0 (countKept has 0 (length times)) ++ x)) (sym (p ∙ w)));
-      }
-
-  pub standing-within : (n : ℕ) (out : List ℕ) (at i : ℕ) → Standing n out at i → at < n → i < length times
-  standing-within n out at i w h =
-      by-test (ltb i (length times)) (λ k. ltb-true _ _ k)
-      (λ k. let p = w .place in let z = count-none has i (length times) (ltb-false _ _ k) in absurd (omega arith))
-
-  pub standing-turn : (n : ℕ) (out : List ℕ) (at i : ℕ) → Standing n out at i → at < n → Standing n (set out at (getD times i 0)) (getD diffEnds i 0) (i + 1)
-  standing-turn n out at i w h =
-      let l : i < length times = standing-within n out at i w h in
-      let a = w .here in
-      let p = w .place in
-      let lo = steps i (omega arith) .0 in
-      let hi = steps i (omega arith) .1 in
-      let s : i + 1 ≡ suc i = omega arith in
-      let li : length (still (i + 1)) ≡ countKept has (i + 1) (length times - (i + 1)) = length-pickAt has (λ (t : ℕ). getD times t 0) (i + 1) (length times - (i + 1)) in
-      by-test (ltb (startOf diffEnds i) (getD diffEnds i 0))
-      (λ k.
-      let b : startOf diffEnds i < getD diffEnds i 0 = ltb-true _ _ k in
-      let e : getD diffEnds i 0 ≡ suc at = omega arith in
-      let c : countKept has i (length times - i) ≡ suc (countKept has (i + 1) (length times - (i + 1))) = count-in has i (length times) l k in
-      let t : still i ≡ getD times i 0 ∷ still (i + 1) = pick-in has (λ (j : ℕ). getD times j 0) i (length times) l k in
-      record {
-        here = ap (startOf diffEnds) (sym s);
-        place = omega arith;
-        room = length-set out at (getD times i 0) ∙ w .room;
-        whole = ap (λ (x : ℕ). sets (sets (sets (set out at (getD times i 0)) x (still (i + 1))) n (countUp 0 n)) (n + n) diffs) e
-            ∙ sym (ap (λ (x : List ℕ). sets (sets (sets out at x) n (countUp 0 n)) (n + n) diffs) t) ∙ w .whole;
-      })
-      (λ k.
-      let b : getD diffEnds i 0 ≤ startOf diffEnds i = ltb-false _ _ k in
-      let e : getD diffEnds i 0 ≡ at = omega arith in
-      let c : countKept has i (length times - i) ≡ countKept has (i + 1) (length times - (i + 1)) = count-out has i (length times) l k in
-      let t : still i ≡ still (i + 1) = pick-out has (λ (j : ℕ). getD times j 0) i (length times) l k in
-      record {
-        here = ap (startOf diffEnds) (sym s);
-        place = omega arith;
-        room = length-set out at (getD times i 0) ∙ w .room;
-        whole = ap (λ (x : ℕ). sets (sets (sets (set out at (getD times i 0)) x (still (i + 1))) n (countUp 0 n)) (n + n) diffs) e
-            ∙ ap (λ (x : List ℕ). sets (sets x n (countUp 0 n)) (n + n) diffs) (set-over (still (i + 1)) out at (getD times i 0) (omega arith))
-            ∙ sym (ap (λ (x : List ℕ). sets (sets (sets out at x) n (countUp 0 n)) (n + n) diffs) t) ∙ w .whole;
-      })
-
-  pub standing-end : (n : ℕ) (out : List ℕ) (at i : ℕ) → Standing n out at i → n ≤ at → sets (sets out n (countUp 0 n)) (n + n) diffs ≡ leavesOut has times diffEnds diffs
-  standing-end n out at i w h =
-      let p = w .place in
-      let l = length-pickAt has (λ (t : ℕ). getD times t 0) i (length times - i) in
-      let z : still i ≡ [] = no-length (still i) (omega arith) in
-      simp z at (w .whole)
-
--- where all stay, those with a diff do
-pub all-stay : (times corners diffEnds : List ℕ) → hasDiff diffEnds ≡ timeKept All times corners diffEnds
-all-stay times corners diffEnds = λ j i. and-true-right (hasDiff diffEnds i) j
-  where
-    and-true-right : (b : Bool) → b ≡ (b && true)
-    and-true-right b = by-test b (λ k. simp k) (λ k. simp k)
 
 -- the leaves' words: a time, an end and a diff of each
 pub length-leavesOut : (m : ℕ → Bool) (times diffEnds diffs : List ℕ) (n : ℕ) → n ≡ countKept m 0 (length times) → length (leavesOut m times diffEnds diffs) ≡ n + (n + n)

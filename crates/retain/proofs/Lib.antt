@@ -23,3 +23,4 @@ pub mod Running
 pub mod Whole
 pub mod Spans
 pub mod Sliced
+pub mod Weaving

@@ -66,6 +66,10 @@ out-cuts lay k v t room e a b d h =
       tableIn = omega arith;
     }
 
+-- all three together
+pub whole-size : (lay : Contents) (k v t room : ℕ) → OutCuts lay k v t room → lay .size ≡ lay .«keys_at» + ((k + k) + ((v + v) + (t + (t + t))))
+whole-size lay k v t room u = let a = u .keys in let b = u .vals in let d = u .times in omega arith
+
 pub up-to : (a b n : ℕ) → b ≡ a + n → a ≤ b
 up-to a b n e = omega arith
 
@@ -84,6 +88,13 @@ put-next p rest new a e h k =
     let t : take a (p ++ rest) ≡ p = take-at p rest a (sym h) in
     let d : drop a (p ++ rest) ≡ rest = drop-at p rest a (sym h) in
     (λ i. t i ++ (new ++ drop (n i) (d i))) ∙ sym (append-assoc p new (drop (length new) rest))
+
+-- one part after the table, as a call left it
+pub put-one : (out o T A p : List ℕ) (a e : ℕ) → o ≡ T ++ drop (length T) out → p ≡ A → a ≡ length T → e ≡ a + length A → putMid a (e - a) o p ≡ over (T ++ A) out
+put-one out o T A p a e ho hp ha he =
+    let l : length T + length A ≡ length (T ++ A) = sym (length-append T A) in
+    (λ i. putMid a (e - a) (ho i) (hp i)) ∙ put-next T (drop (length T) out) A a e ha he
+    ∙ ap (λ (x : List ℕ). (T ++ A) ++ x) (drop-drop (length A) (length T) out ∙ ap (λ (n : ℕ). drop n out) l)
 
 -- three parts after the table
 pub put-three : (out T A B C : List ℕ) (a b d e : ℕ) → a ≡ length T → b ≡ a + length A → d ≡ b + length B → e ≡ d + length C

@@ -10,7 +10,7 @@ use mir.Val.{Fits}
 use mir.Syntax.{w64}
 use Rattle.chunk.specs.Entry.{Entry, every, rising, stands, keep}
 use Rattle.chunk.specs.Bodies.{keys, vals, times, diffs, valEnds, timeEnds, diffEnds, chunkOf}
-use Rattle.chunk.specs.Words.{wellFormed, entries, keyBody, valEndBody, valBody, timeEndBody, timeBody, diffEndBody, diffBody, nk, nv, nt, nd, limit, endsRise, endsStep, risesFrom, size}
+use Rattle.chunk.specs.Words.{wellFormed, entries, keyBody, valEndBody, valBody, timeEndBody, timeBody, diffEndBody, diffBody, nk, nv, nt, nd, limit, tableSize, endsRise, endsStep, risesFrom, size}
 use Rattle.chunk.specs.declared.Contents.{Contents}
 use Rattle.chunk.specs.Contents.{startOf, tableOf, contentsOf, Placed}
 use Rattle.chunk.proofs.Placed.{placed, length-keys, length-val-ends, length-vals, length-time-ends, length-times, length-diff-ends, length-diffs}
@@ -214,11 +214,9 @@ module _ (w : List ℕ) (f : wellFormed w ≡ true) (leaf : ℕ → Bool) where
   pub its-bodies : Bodies (keyBody w) (valEndBody w) (valBody w) (timeEndBody w) (timeBody w) (diffEndBody w) (diffBody w)
   its-bodies =
       record {
-        keyRows = val-rows;
-        valRows = time-rows;
+        overVals = record { rows = val-rows; rise = val-ends-rise; last = rise-last (valEndBody w) (nv w) (parts w f .valEndsRise) ∙ sym (length-vals (contentsOf w) w its-place) };
+        overTimes = record { rows = time-rows; rise = time-ends-rise; last = rise-last (timeEndBody w) (nt w) (parts w f .timeEndsRise) ∙ sym (length-times (contentsOf w) w its-place) };
         timeRows = length-diff-ends (contentsOf w) w its-place ∙ sym (length-times (contentsOf w) w its-place);
-        valEndsRise = val-ends-rise;
-        timeEndsRise = time-ends-rise;
         diffsWithin = diffs-within;
         diffsStep = ends-step (diffEndBody w) (nd w) (parts w f .diffEndsStep);
       }
@@ -266,7 +264,7 @@ module _ (w : List ℕ) (f : wellFormed w ≡ true) (leaf : ℕ → Bool) where
       }
 
   pub its-left : (k v t room : ℕ) → ListsLeft valueStays (valEndBody w) k v → t ≡ length fs → size w ≤ room
-      → Left timeStays (keyBody w) (valEndBody w) (valBody w) (timeEndBody w) (timeBody w) k v t room
+      → Left timeStays (keyBody w) (valEndBody w) (valBody w) (timeEndBody w) (timeBody w) k v t × (tableSize + 2 * k + 2 * v + 2 * t + t ≤ room)
   its-left k v t room l ht h =
       let gk : k ≡ countKept keyStays 0 (length (keyBody w)) = its-keys k v l in
       let gv : v ≡ countKept valueStays 0 (length (valBody w)) = its-vals k v l in
@@ -282,16 +280,17 @@ module _ (w : List ℕ) (f : wellFormed w ≡ true) (leaf : ℕ → Bool) where
       let bk = rise-count 0 (valEndBody w) (nv w) (parts w f .valEndsRise) in
       let bv = rise-count 0 (timeEndBody w) (nt w) (parts w f .timeEndsRise) in
       let bt : nt w ≤ limit = leb-true _ _ (parts w f .few) in
-      let bd = few-times in
-      record {
-        keysLeft = gk ∙ sym (nodes-count valueStays (keyBody w) (valEndBody w) val-rows);
-        valsLeft = gv ∙ sym (nodes-count timeStays (valBody w) (timeEndBody w) time-rows);
-        timesLeft = gt;
-        fewKeys = omega arith;
-        fewVals = omega arith;
-        fewTimes = omega arith;
-        fits = omega arith;
-      }
+      let bd = few-times in (
+        record {
+          keysLeft = gk ∙ sym (nodes-count valueStays (keyBody w) (valEndBody w) val-rows);
+          valsLeft = gv ∙ sym (nodes-count timeStays (valBody w) (timeEndBody w) time-rows);
+          timesLeft = gt;
+          fewKeys = omega arith;
+          fewVals = omega arith;
+          fewTimes = omega arith;
+        },
+        omega arith,
+      )
 
   -- what is written is the chunk
   pub its-words : (k v t : ℕ) → ListsLeft valueStays (valEndBody w) k v → t ≡ length fs
@@ -307,7 +306,7 @@ module _ (w : List ℕ) (f : wellFormed w ≡ true) (k : Keep) (corners ks ves v
   cut-bodies = rw (ek, eve, ev, ete, et, ede, ed) (its-bodies w f (λ i. true))
 
   pub cut-left : (nk nv nt room : ℕ) → ListsLeft (listKept (timeKept k ts corners des) tes) ves nk nv → nt ≡ length (retainedOf k corners w) → size w ≤ room
-      → Left (timeKept k ts corners des) ks ves vs tes ts nk nv nt room
+      → Left (timeKept k ts corners des) ks ves vs tes ts nk nv nt × (tableSize + 2 * nk + 2 * nv + 2 * nt + nt ≤ room)
   unfolding retainedOf
   cut-left = rw (ek, eve, ev, ete, et, ede) (its-left w f (keepsAt k (timeBody w) corners))
 

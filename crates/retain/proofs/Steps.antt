@@ -115,11 +115,9 @@ start-before ends zero h = absurd (h refl)
 start-before ends (suc i) h = let z : i ≡ suc i - 1 = omega arith in ap (λ (k : ℕ). getD ends k 0) z
 
 -- a list's length says whether it has an item
-pub list-bit : (ends : List ℕ) (i : ℕ) (r : Range) → EndsStep ends → i < length ends → r ≡ childRange ends i → (r .lower ≤ r .upper) × (r .upper - r .lower ≡ bit (hasDiff ends i))
-unfolding childRange bit
-list-bit ends i r s h e =
-    let lo : r .lower ≡ startOf ends i = range-lower ends i r e h in
-    let hi : r .upper ≡ getD ends i 0 = ap (λ (x : Range). x .upper) e ∙ simp (lt-ltb i (length ends) h) in
+pub end-bit : (ends : List ℕ) (i lower : ℕ) → EndsStep ends → i < length ends → lower ≡ startOf ends i → (lower ≤ getD ends i 0) × (getD ends i 0 - lower ≡ bit (hasDiff ends i))
+unfolding bit
+end-bit ends i lower s h lo =
     let a = s i h .0 in
     let b = s i h .1 in (
       omega arith,
@@ -127,6 +125,12 @@ list-bit ends i r s h e =
           (λ k. let l : startOf ends i < getD ends i 0 = ltb-true _ _ k in simp k (omega arith))
           (λ k. let l : getD ends i 0 ≤ startOf ends i = ltb-false _ _ k in simp k (omega arith)),
     )
+
+pub list-bit : (ends : List ℕ) (i : ℕ) (r : Range) → EndsStep ends → i < length ends → r ≡ childRange ends i → (r .lower ≤ r .upper) × (r .upper - r .lower ≡ bit (hasDiff ends i))
+unfolding childRange
+list-bit ends i r s h e =
+    let hi : r .upper ≡ getD ends i 0 = ap (λ (x : Range). x .upper) e ∙ simp (lt-ltb i (length ends) h) in
+    rw hi (end-bit ends i (r .lower) s h (range-lower ends i r e h))
 
 pub bit-and : (a b : Bool) → bit a * bit b ≡ bit (a && b)
 unfolding bit

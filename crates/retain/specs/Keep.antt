@@ -9,8 +9,6 @@ use Rattle.chunk.specs.Entry.{Entry}
 use Rattle.chunk.specs.Words.{entries, timeBody, diffEndBody}
 use Rattle.retain.specs.declared.Keep.{Keep}
 use Rattle.retain.specs.declared.Keep.the-variants.{All, Below, From, Open, Shut}
-use Rattle.retain.specs.declared.Level.{Level}
-use Rattle.retain.specs.declared.Level.the-variants.{Values, Keys}
 use Rattle.retain.specs.Frontier.{isOpen}
 use Rattle.retain.specs.Layers.{hasDiff, listKept, pick}
 
@@ -25,11 +23,6 @@ keepsAt Shut times corners i = not (isOpen corners (getD times i 0))
 -- whether time i has a diff and stays
 abbrev pub timeKept : Keep → List ℕ → List ℕ → List ℕ → ℕ → Bool
 timeKept keep times corners diffEnds i = hasDiff diffEnds i && keepsAt keep times corners i
-
--- whether an item of a list of this level stays: a time by itself, a value by its times
-abbrev pub below : Level → (ℕ → Bool) → List ℕ → ℕ → Bool
-below Values m timeEnds i = m i
-below Keys m timeEnds i = listKept m timeEnds i
 
 -- the entries of a chunk that stay
 unfoldable pub retainedOf : Keep → List ℕ → List ℕ → List Entry

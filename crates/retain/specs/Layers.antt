@@ -91,28 +91,34 @@ pub record Ready (times corners diffEnds : List ℕ) : Type 0 where
   pub steps : EndsStep diffEnds
   pub stairs : ordered corners ≡ true
 
--- seven bodies that belong together: as many ends as items above them, ends that rise, and diff ends that step, within the diffs
+-- items that each have a list below: as many ends, rising to the count of the items below
+pub record Over (items ends : List ℕ) (n : ℕ) : Type 0 where
+  pub rows : length items ≡ length ends
+  pub rise : risesFrom 0 ends ≡ true
+  pub last : startOf ends (length ends) ≡ n
+
+-- seven bodies that belong together: lists below the keys and below the values, and diff ends that step, within the diffs
 pub record Bodies (keys valEnds vals timeEnds times diffEnds diffs : List ℕ) : Type 0 where
-  pub keyRows : length keys ≡ length valEnds
-  pub valRows : length vals ≡ length timeEnds
+  pub overVals : Over keys valEnds (length vals)
+  pub overTimes : Over vals timeEnds (length times)
   pub timeRows : length diffEnds ≡ length times
-  pub valEndsRise : risesFrom 0 valEnds ≡ true
-  pub timeEndsRise : risesFrom 0 timeEnds ≡ true
   pub diffsWithin : EndsWithin diffEnds (length diffs)
   pub diffsStep : EndsStep diffEnds
 
--- what is left of each layer, within the limit, and room for its chunk
-pub record Left (m : ℕ → Bool) (keys valEnds vals timeEnds times : List ℕ) (k v t room : ℕ) : Type 0 where
+-- what is left of each layer, within the limit
+pub record Left (m : ℕ → Bool) (keys valEnds vals timeEnds times : List ℕ) (k v t : ℕ) : Type 0 where
   pub keysLeft : k ≡ length (nodes (listKept m timeEnds) itemOf 0 0 keys valEnds)
   pub valsLeft : v ≡ length (nodes m itemOf 0 0 vals timeEnds)
   pub timesLeft : t ≡ countKept m 0 (length times)
   pub fewKeys : k ≤ limit
   pub fewVals : v ≤ limit
   pub fewTimes : t ≤ limit
-  pub fits : tableSize + 2 * k + 2 * v + 2 * t + t ≤ room
 
--- the words of what stays of seven bodies: the table, the keys and their ends, the values and theirs, the times, theirs and the diffs
+-- the words of what stays of seven bodies: the keys and their ends, the values and theirs, the times, theirs and the diffs
+abbrev pub bodiesOut : (ℕ → Bool) → List ℕ → List ℕ → List ℕ → List ℕ → List ℕ → List ℕ → List ℕ → List ℕ
+bodiesOut m keys valEnds vals timeEnds times diffEnds diffs =
+    nodesOut (listKept m timeEnds) keys valEnds ++ (nodesOut m vals timeEnds ++ leavesOut m times diffEnds diffs)
+
+-- the table of so many, and these behind it
 abbrev pub layersOut : (ℕ → Bool) → List ℕ → List ℕ → List ℕ → List ℕ → List ℕ → List ℕ → List ℕ → ℕ → ℕ → ℕ → List ℕ
-layersOut m keys valEnds vals timeEnds times diffEnds diffs k v t =
-    tableOf k v t t
-    ++ (nodesOut (listKept m timeEnds) keys valEnds ++ (nodesOut m vals timeEnds ++ leavesOut m times diffEnds diffs))
+layersOut m keys valEnds vals timeEnds times diffEnds diffs k v t = tableOf k v t t ++ bodiesOut m keys valEnds vals timeEnds times diffEnds diffs

@@ -2,6 +2,7 @@ pub mod Cut
 pub mod Frontier
 pub mod Extract
 pub mod Layers
+pub mod Onward
 pub mod Keep
 pub mod Found
 pub mod Answer

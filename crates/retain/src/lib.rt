@@ -1,19 +1,20 @@
 ghost use mathlib.Core.Path.{_≡_};
 ghost use mathlib.Core.Bool.{true, false};
-ghost use Prim.Native.Nat.{ℕ, _+_, _-_, _≤_, _<_, _^_};
+ghost use Prim.Native.Nat.{ℕ, _+_, _*_, _≤_};
 ghost use lib.ListN.{length};
 ghost use Rattle.retain.specs.Frontier.{isOpen, ordered, leastOf, sound};
 ghost use Rattle.retain.specs.Found.{emptyFrontier, keptBy};
 ghost use Rattle.chunk.specs.Entry.{keep};
 ghost use Rattle.retain.specs.Answer.{verdictBy, refusedBy, Parted, Extraction};
-ghost use Rattle.retain.specs.Keep.{keepsAt, timeKept, below, retainedOf};
-ghost use Rattle.retain.specs.Layers.{countKept, listKept, nodes, itemOf, nodesOut, leavesOut, hasDiff, EndsStep, EndsWithin, Ready, Bodies, Left, layersOut};
-ghost use Rattle.chunk.specs.Words.{risesFrom, wellFormed, settled, size, over, entries};
+ghost use Rattle.retain.specs.Keep.{timeKept, retainedOf};
+ghost use Rattle.retain.specs.Layers.{Bodies, Left, layersOut};
+ghost use Rattle.chunk.specs.Words.{wellFormed, settled, size, tableSize, over, entries};
 ghost use Rattle.chunk.specs.Contents.{Placed};
 ghost use Rattle.chunk.specs.Bodies.{chunkOf};
 ghost use Rattle.retain.specs.Cut.{filterNumber, filterOut, Split};
 use chunk::Contents;
 use climb::add_corner;
+use layers::write_layers;
 use look::count_open;
 use look::in_order;
 use look::is_open;
@@ -21,13 +22,10 @@ use one_by_one::scan_corners;
 use ranges::range_of;
 use ranges::retain_range;
 use runs::copy;
-use runs::count_up;
-use stay::count_below;
 use stay::count_lists;
-use stay::is_all;
-use stay::kept_bit;
 
 mod climb;
+mod layers;
 mod look;
 mod one_by_one;
 mod ranges;
@@ -43,137 +41,20 @@ pub enum Keep {
     Shut,
 }
 
-// Whose lists are asked for: a value's, of times, or a key's, of values.
-pub enum Level {
-    Values,
-    Keys,
-}
-
 // How many keys and values are left.
 pub struct Lists {
     pub keys: usize,
     pub vals: usize,
 }
 
-// Writes a layer's items that have a list left, and after them the ends of those lists: the count of what stays up to each. What is written of
-// a list that is left empty is written over by the next that isn't.
-fn write_nodes(
-    level: Level,
-    keep: Keep,
-    times: &[u64],
-    corners: &[u64],
-    diff_ends: &[u64],
-    time_ends: &[u64],
-    items: &[u64],
-    ends: &[u64],
-    n: usize,
-    out: &mut [u64],
-)
-    requires { ⌜ Ready (now times) (now corners) (now «diff_ends») ⌝ }
-    requires { ⌜ (length (now items) ≡ length (now ends)) × (risesFrom 0 (now ends) ≡ true) ⌝ }
-    requires { ⌜ (n ≡ length (nodes (below level (timeKept keep (now times) (now corners) (now «diff_ends»)) (now «time_ends»)) itemOf 0 0 (now items) (now ends))) × (length (now out) ≡ n + n) ⌝ }
-    ensures { λ _. ⌜ now (out .exit) ≡ nodesOut (below level (timeKept keep (now (times .entry)) (now (corners .entry)) (now («diff_ends» .entry))) (now («time_ends» .entry))) (now (items .entry)) (now (ends .entry)) ⌝ }
-{
-    let mut start = 0;
-    let mut total = 0;
-    let mut at = 0;
-    let mut i = 0;
-    while at < n {
-        let end = ends[i] as usize;
-        let left = count_below(
-            level,
-            keep,
-            times,
-            corners,
-            diff_ends,
-            time_ends,
-            start,
-            end,
-        );
-        total += left;
-        out[at] = items[i];
-        out[n + at] = total as u64;
-        if 0 < left {
-            at += 1;
-        }
-        start = end;
-        i += 1;
-    }
+// How far a walk over the lists is: so many values and times are written, and the next list starts at this time.
+pub struct Reached {
+    pub vals: usize,
+    pub time: usize,
+    pub times: usize,
 }
 
-// Writes the times that stay, after them the ends of their lists, and after these their diffs, one each. What is written of a time that goes is
-// written over by the next that stays.
-fn write_leaves(
-    keep: Keep,
-    times: &[u64],
-    corners: &[u64],
-    diff_ends: &[u64],
-    diffs: &[u64],
-    n: usize,
-    out: &mut [u64],
-)
-    requires { ⌜ Ready (now times) (now corners) (now «diff_ends») × (length (now «diff_ends») ≡ length (now times)) ⌝ }
-    requires { ⌜ EndsWithin (now «diff_ends») (length (now diffs)) ⌝ }
-    requires { ⌜ (n ≡ countKept (timeKept keep (now times) (now corners) (now «diff_ends»)) 0 (length (now times))) × (length (now out) ≡ n + (n + n)) ⌝ }
-    ensures { λ _. ⌜ now (out .exit) ≡ leavesOut (timeKept keep (now (times .entry)) (now (corners .entry)) (now («diff_ends» .entry))) (now (times .entry)) (now («diff_ends» .entry)) (now (diffs .entry)) ⌝ }
-{
-    let mut at = 0;
-    let mut i = 0;
-    while at < n {
-        let list = chunk::child_range(diff_ends, i);
-        let lower = list.lower;
-        out[at] = times[i];
-        out[n + n + at] = diffs[lower];
-        let stays = kept_bit(keep, times, corners, diff_ends, i);
-        at += stays;
-        i += 1;
-    }
-    count_up(0, n, out, n);
-}
-
-// Writes what stays of a filter: the times that have a diff, after them the ends of their lists, and after these all diffs. Up to each time so many
-// have one as diffs end there.
-fn write_standing(times: &[u64], diff_ends: &[u64], diffs: &[u64], n: usize, out: &mut [u64])
-    requires { ⌜ (length (now «diff_ends») ≡ length (now times)) × EndsStep (now «diff_ends») ⌝ }
-    requires { ⌜ (n ≡ countKept (hasDiff (now «diff_ends»)) 0 (length (now times))) × ((length (now diffs) ≡ n) × (length (now out) ≡ n + (n + n))) ⌝ }
-    ensures { λ _. ⌜ now (out .exit) ≡ leavesOut (hasDiff (now («diff_ends» .entry))) (now (times .entry)) (now («diff_ends» .entry)) (now (diffs .entry)) ⌝ }
-{
-    let mut at = 0;
-    let mut i = 0;
-    while at < n {
-        out[at] = times[i];
-        at = diff_ends[i] as usize;
-        i += 1;
-    }
-    count_up(0, n, out, n);
-    copy(diffs, out, n + n);
-}
-
-// Writes the times that stay, after them the ends of their lists, and after these their diffs, one each.
-fn write_times(
-    keep: Keep,
-    times: &[u64],
-    corners: &[u64],
-    diff_ends: &[u64],
-    diffs: &[u64],
-    n: usize,
-    out: &mut [u64],
-)
-    requires { ⌜ Ready (now times) (now corners) (now «diff_ends») × (length (now «diff_ends») ≡ length (now times)) ⌝ }
-    requires { ⌜ EndsWithin (now «diff_ends») (length (now diffs)) ⌝ }
-    requires { ⌜ (n ≡ countKept (timeKept keep (now times) (now corners) (now «diff_ends»)) 0 (length (now times))) × (length (now out) ≡ n + (n + n)) ⌝ }
-    ensures { λ _. ⌜ now (out .exit) ≡ leavesOut (timeKept keep (now (times .entry)) (now (corners .entry)) (now («diff_ends» .entry))) (now (times .entry)) (now («diff_ends» .entry)) (now (diffs .entry)) ⌝ }
-{
-    if diffs.len() == n {
-        if is_all(keep) {
-            write_standing(times, diff_ends, diffs, n, out);
-            return;
-        }
-    }
-    write_leaves(keep, times, corners, diff_ends, diffs, n, out);
-}
-
-// Writes the table of these counts, and each layer into its own part.
+// Writes the table of these counts, and behind it what stays of each layer.
 fn write_bodies(
     keep: Keep,
     corners: &[u64],
@@ -191,47 +72,28 @@ fn write_bodies(
 )
     requires { ⌜ ordered (now corners) ≡ true ⌝ }
     requires { ⌜ Bodies (now keys) (now «val_ends») (now vals) (now «time_ends») (now times) (now «diff_ends») (now diffs) ⌝ }
-    requires { ⌜ Left (timeKept keep (now times) (now corners) (now «diff_ends»)) (now keys) (now «val_ends») (now vals) (now «time_ends») (now times) nk nv nt (length (now out)) ⌝ }
+    requires { ⌜ Left (timeKept keep (now times) (now corners) (now «diff_ends»)) (now keys) (now «val_ends») (now vals) (now «time_ends») (now times) nk nv nt ⌝ }
+    requires { ⌜ tableSize + 2 * nk + 2 * nv + 2 * nt + nt ≤ length (now out) ⌝ }
     ensures { λ _. ⌜ now (out .exit) ≡ over (layersOut (timeKept keep (now (times .entry)) (now (corners .entry)) (now («diff_ends» .entry))) (now (keys .entry)) (now («val_ends» .entry)) (now (vals .entry)) (now («time_ends» .entry)) (now (times .entry)) (now («diff_ends» .entry)) (now (diffs .entry)) nk nv nt) (now (out .entry)) ⌝ }
 {
     let to = chunk::layout(nk, nv, nt, nt);
     let keys_at = to.keys_at;
-    let vals_at = to.vals_at;
-    let times_at = to.times_at;
     let end = to.size;
     chunk::write_table(out, nk, nv, nt, nt);
-    write_nodes(
-        Level::Keys,
+    write_layers(
         keep,
-        times,
         corners,
-        diff_ends,
-        time_ends,
         keys,
         val_ends,
-        nk,
-        &mut out[keys_at..vals_at],
-    );
-    write_nodes(
-        Level::Values,
-        keep,
-        times,
-        corners,
-        diff_ends,
-        time_ends,
         vals,
         time_ends,
-        nv,
-        &mut out[vals_at..times_at],
-    );
-    write_times(
-        keep,
         times,
-        corners,
         diff_ends,
         diffs,
+        nk,
+        nv,
         nt,
-        &mut out[times_at..end],
+        &mut out[keys_at..end],
     );
 }
 

@@ -3,19 +3,17 @@ ghost use mathlib.Core.Path.{_≡_};
 ghost use mathlib.Core.Bool.{true, false};
 ghost use Prim.Native.Nat.{ℕ, _+_, _-_, _≤_, _<_};
 ghost use lib.ListN.{length};
-ghost use Rattle.retain.specs.declared.Keep.the-variants.{All};
 ghost use Rattle.retain.specs.Frontier.{ordered};
-ghost use Rattle.retain.specs.Keep.{keepsAt, timeKept, below};
+ghost use Rattle.retain.specs.Keep.{keepsAt, timeKept};
 ghost use Rattle.retain.specs.Layers.{bit, countKept, listKept, hasDiff, EndsStep, ListsLeft, Ready};
 ghost use Rattle.chunk.specs.Words.{risesFrom};
 use crate::Keep;
-use crate::Level;
 use crate::Lists;
 use crate::look::count_open;
 use crate::look::open_bit;
 
 // 1 where a test holds, else 0.
-fn bit_of(b: bool) -> usize
+pub(crate) fn bit_of(b: bool) -> usize
     ensures { λ r. ⌜ r ≡ bit b ⌝ }
 {
     if b {
@@ -24,21 +22,8 @@ fn bit_of(b: bool) -> usize
     0
 }
 
-// Whether every time that has a diff stays.
-pub(crate) fn is_all(keep: Keep) -> bool
-    ensures { λ r. ⌜ (r ≡ true → keep ≡ All) ⌝ }
-{
-    match keep {
-        Keep::All => true,
-        Keep::Below(_) => false,
-        Keep::From(_) => false,
-        Keep::Open => false,
-        Keep::Shut => false,
-    }
-}
-
 // 1 where a time that has a diff stays, else 0.
-fn keeps(keep: Keep, times: &[u64], corners: &[u64], i: usize) -> usize
+pub(crate) fn keeps(keep: Keep, times: &[u64], corners: &[u64], i: usize) -> usize
     requires { ⌜ (i < length (now times)) × (ordered (now corners) ≡ true) ⌝ }
     ensures { λ r. ⌜ r ≡ bit (keepsAt keep (now (times .entry)) (now (corners .entry)) i) ⌝ }
 {
@@ -52,13 +37,7 @@ fn keeps(keep: Keep, times: &[u64], corners: &[u64], i: usize) -> usize
 }
 
 // 1 where a time has a diff and stays, else 0.
-pub(crate) fn kept_bit(
-    keep: Keep,
-    times: &[u64],
-    corners: &[u64],
-    diff_ends: &[u64],
-    i: usize,
-) -> usize
+fn kept_bit(keep: Keep, times: &[u64], corners: &[u64], diff_ends: &[u64], i: usize) -> usize
     requires { ⌜ Ready (now times) (now corners) (now «diff_ends») × (i < length (now «diff_ends»)) ⌝ }
     ensures { λ r. ⌜ r ≡ bit (timeKept keep (now (times .entry)) (now (corners .entry)) (now («diff_ends» .entry)) i) ⌝ }
 {
@@ -139,7 +118,7 @@ fn count_range(
 }
 
 // How many of the times from one index to another stay.
-pub(crate) fn count_times(
+fn count_times(
     keep: Keep,
     times: &[u64],
     corners: &[u64],
@@ -161,7 +140,7 @@ pub(crate) fn count_times(
 }
 
 // How many of the values from one index to another have a time that stays.
-pub(crate) fn count_values(
+fn count_values(
     keep: Keep,
     times: &[u64],
     corners: &[u64],
@@ -216,24 +195,4 @@ pub(crate) fn count_lists(
         i += 1;
     }
     Lists { keys, vals }
-}
-
-// How many items stay of a list at this level.
-pub(crate) fn count_below(
-    level: Level,
-    keep: Keep,
-    times: &[u64],
-    corners: &[u64],
-    diff_ends: &[u64],
-    time_ends: &[u64],
-    from: usize,
-    to: usize,
-) -> usize
-    requires { ⌜ Ready (now times) (now corners) (now «diff_ends») ⌝ }
-    ensures { λ r. ⌜ r ≡ countKept (below level (timeKept keep (now (times .entry)) (now (corners .entry)) (now («diff_ends» .entry))) (now («time_ends» .entry))) from (to - from) ⌝ }
-{
-    match level {
-        Level::Values => count_times(keep, times, corners, diff_ends, from, to),
-        Level::Keys => count_values(keep, times, corners, diff_ends, time_ends, from, to),
-    }
 }

@@ -22,4 +22,5 @@ pub mod Spots
 pub mod Running
 pub mod Whole
 pub mod Spans
+pub mod Parting
 pub mod Sliced

@@ -91,6 +91,15 @@ pub record Ready (times corners diffEnds : List ℕ) : Type 0 where
   pub steps : EndsStep diffEnds
   pub stairs : ordered corners ≡ true
 
+-- each time has a diff
+abbrev pub AllDiffs : List ℕ → List ℕ → Type 0
+AllDiffs times diffEnds = (i : ℕ) → i < length times → hasDiff diffEnds i ≡ true
+
+-- ends that rise, the last of them within n items
+pub record RisesWithin (ends : List ℕ) (n : ℕ) : Type 0 where
+  pub rise : risesFrom 0 ends ≡ true
+  pub last : startOf ends (length ends) ≤ n
+
 -- seven bodies that belong together: as many ends as items above them, ends that rise, and diff ends that step, within the diffs
 pub record Bodies (keys valEnds vals timeEnds times diffEnds diffs : List ℕ) : Type 0 where
   pub keyRows : length keys ≡ length valEnds

@@ -32,6 +32,7 @@ mod look;
 mod one_by_one;
 mod ranges;
 mod runs;
+mod sides;
 mod stay;
 
 // Which times that have a diff stay: every one, those with an index below a number or from it on, those open under the corners, the others.
@@ -53,6 +54,14 @@ pub enum Level {
 pub struct Lists {
     pub keys: usize,
     pub vals: usize,
+}
+
+// How many keys and values are left with an open time, and how many with one that isn't.
+pub struct Both {
+    pub open_keys: usize,
+    pub open_vals: usize,
+    pub shut_keys: usize,
+    pub shut_vals: usize,
 }
 
 // Writes a layer's items that have a list left, and after them the ends of those lists: the count of what stays up to each. What is written of

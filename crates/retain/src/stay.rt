@@ -15,7 +15,7 @@ use crate::look::count_open;
 use crate::look::open_bit;
 
 // 1 where a test holds, else 0.
-fn bit_of(b: bool) -> usize
+pub(crate) fn bit_of(b: bool) -> usize
     ensures { λ r. ⌜ r ≡ bit b ⌝ }
 {
     if b {
@@ -180,9 +180,7 @@ pub(crate) fn count_values(
         let lower = list.lower;
         let upper = list.upper;
         let left = count_times(keep, times, corners, diff_ends, lower, upper);
-        if 0 < left {
-            count += 1;
-        }
+        count += bit_of(0 < left);
         i += 1;
     }
     count
@@ -209,10 +207,8 @@ pub(crate) fn count_lists(
         let lower = list.lower;
         let upper = list.upper;
         let left = count_values(keep, times, corners, diff_ends, time_ends, lower, upper);
-        if 0 < left {
-            keys += 1;
-            vals += left;
-        }
+        keys += bit_of(0 < left);
+        vals += left;
         i += 1;
     }
     Lists { keys, vals }

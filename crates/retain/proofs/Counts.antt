@@ -6,11 +6,11 @@ use mathlib.Core.List.{List, [], _∷_}
 use native.Mathlib.Omega.{arith}
 use lib.Dec.{ltb}
 use lib.ListN.{length, getD, List·getD-eq-default}
-use borrow.Author.Tests.{lt-ltb, le-ltb, ltb-true, ltb-false}
+use borrow.Author.Tests.{lt-ltb, ltb-true, ltb-false}
 use Rattle.chunk.specs.declared.Range.{Range}
 use Rattle.chunk.specs.Contents.{startOf, childRange}
 use Rattle.laws.proofs.Tests.{by-test, and-left, and-right}
-use Rattle.retain.specs.Layers.{countKept, listKept, hasDiff, ListsLeft}
+use Rattle.retain.specs.Layers.{bit, countKept, listKept, hasDiff, ListsLeft}
 use Rattle.chunk.specs.Words.{risesFrom}
 
 -- one item more, counted or not
@@ -53,33 +53,46 @@ pub record Counted (m : ℕ → Bool) (from to count i : ℕ) : Type 0 where
 pub counted-start : (m : ℕ → Bool) (from to : ℕ) → Counted m from to 0 from
 counted-start m from to = record { within = omega arith; whole = omega arith }
 
-pub counted-in : (m : ℕ → Bool) (from to count i : ℕ) → Counted m from to count i → i < to → m i ≡ true → Counted m from to (count + 1) (i + 1)
-counted-in m from to count i w h k =
-    let a = w .within in let b = w .whole in let d = count-in m i to h k in
-    record { within = omega arith; whole = omega arith }
-
-pub counted-out : (m : ℕ → Bool) (from to count i : ℕ) → Counted m from to count i → i < to → m i ≡ false → Counted m from to count (i + 1)
-counted-out m from to count i w h k =
-    let a = w .within in let b = w .whole in let d = count-out m i to h k in
-    record { within = omega arith; whole = omega arith }
+-- one more is looked at
+pub counted-bit : (m : ℕ → Bool) (from to count i b : ℕ) → Counted m from to count i → i < to → b ≡ bit (m i) → Counted m from to (count + b) (i + 1)
+unfolding bit
+counted-bit m from to count i b w h e =
+    let a = w .within in let v = w .whole in
+    by-test (m i)
+    (λ k. let q : b ≡ 1 = simp k at e in let d = count-in m i to h k in record { within = omega arith; whole = omega arith })
+    (λ k. let q : b ≡ 0 = simp k at e in let d = count-out m i to h k in record { within = omega arith; whole = omega arith })
 
 pub counted-end : (m : ℕ → Bool) (from to count i : ℕ) → Counted m from to count i → to ≤ i → count ≡ countKept m from (to - from)
 counted-end m from to count i w h = let b = w .whole in let d = count-none m i to h in omega arith
 
--- whether a list has an item that stays, from the count over its range
-pub list-left : (m : ℕ → Bool) (ends : List ℕ) (i : ℕ) (r : Range) (n : ℕ) → r ≡ childRange ends i → n ≡ countKept m (r .lower) (r .upper - r .lower)
-    → listKept m ends i ≡ ltb 0 n
-unfolding childRange listKept countKept
-list-left m ends i r n e q =
+-- what counts over a list's range counts over the list
+pub range-counts : (m : ℕ → Bool) (ends : List ℕ) (i : ℕ) (r : Range) (n : ℕ) → r ≡ childRange ends i → n ≡ countKept m (r .lower) (r .upper - r .lower)
+    → n ≡ countKept m (startOf ends i) (getD ends i 0 - startOf ends i)
+unfolding childRange countKept
+range-counts m ends i r n e q =
     by-test (ltb i (length ends))
     (λ h. simp (q, e, h))
     (λ h. let z : getD ends i 0 ≡ 0 = List·getD-eq-default ends 0 (ltb-false i (length ends) h) in
     let y : 0 - startOf ends i ≡ 0 = omega arith in simp (q, e, h, z, y))
 
--- where a list that is there starts
+-- so does what counts from where the list starts
+pub start-counts : (m : ℕ → Bool) (ends : List ℕ) (i lower n : ℕ) → lower ≡ startOf ends i → n ≡ countKept m lower (getD ends i 0 - lower)
+    → n ≡ countKept m (startOf ends i) (getD ends i 0 - startOf ends i)
+start-counts m ends i lower n p q = q ∙ ap (λ (x : ℕ). countKept m x (getD ends i 0 - x)) p
+
+-- whether a list has an item that stays, from the count over it
+pub list-left : (m : ℕ → Bool) (ends : List ℕ) (i n b : ℕ) → n ≡ countKept m (startOf ends i) (getD ends i 0 - startOf ends i) → b ≡ bit (ltb 0 n) → b ≡ bit (listKept m ends i)
+unfolding listKept countKept
+list-left m ends i n b q e = e ∙ ap (λ (x : ℕ). bit (ltb 0 x)) q
+
+-- where a list that is there starts, and where it ends
 pub range-lower : (ends : List ℕ) (i : ℕ) (r : Range) → r ≡ childRange ends i → i < length ends → r .lower ≡ startOf ends i
 unfolding childRange
 range-lower ends i r e h = simp (e, lt-ltb i (length ends) h)
+
+pub range-upper : (ends : List ℕ) (i : ℕ) (r : Range) → r ≡ childRange ends i → i < length ends → r .upper ≡ getD ends i 0
+unfolding childRange
+range-upper ends i r e h = simp (e, lt-ltb i (length ends) h)
 
 -- ---- lists and their items together
 
@@ -103,6 +116,10 @@ pub start-as : (ends : List ℕ) (i : ℕ) → startOf ends i ≡ getD (0 ∷ en
 start-as ends zero = refl
 start-as ends (suc i) = refl
 
+-- the next list starts where this one ends
+pub start-next : (ends : List ℕ) (i : ℕ) → getD ends i 0 ≡ startOf ends (i + 1)
+start-next ends i = let s : suc i ≡ i + 1 = omega arith in ap (startOf ends) s
+
 -- the lists before i, and their items
 pub record Listed (m : ℕ → Bool) (ends : List ℕ) (lists items i : ℕ) : Type 0 where
   pub counted : Counted (listKept m ends) 0 (length ends) lists i
@@ -114,47 +131,28 @@ pub listed-start : (m : ℕ → Bool) (ends : List ℕ) → risesFrom 0 ends ≡
 unfolding countKept
 listed-start m ends r = record { counted = counted-start (listKept m ends) 0 (length ends); onward = omega arith; rising = r; sofar = refl }
 
-module _ (m : ℕ → Bool) (ends : List ℕ) (lists items i : ℕ) (w : Listed m ends lists items i) (h : i < length ends) (r : Range) (n : ℕ) (e : r ≡ childRange ends i)
-    (q : n ≡ countKept m (r .lower) (r .upper - r .lower)) where
-  range-is : (r .lower ≡ startOf ends i) × (r .upper ≡ getD ends i 0)
-  unfolding childRange
-  range-is = (range-lower ends i r e h, ap (λ (x : Range). x .upper) e ∙ simp (lt-ltb i (length ends) h))
-
-  pub listed-more : items + n ≡ countKept m 0 (getD ends i 0)
+module _ (m : ℕ → Bool) (ends : List ℕ) (lists items i : ℕ) (w : Listed m ends lists items i) (h : i < length ends) (n : ℕ)
+    (q : n ≡ countKept m (startOf ends i) (getD ends i 0 - startOf ends i)) where
+  listed-more : items + n ≡ countKept m 0 (getD ends i 0)
   listed-more =
       let b : startOf ends i < getD ends i 0 = rw start-as (start-below 0 ends i (w .rising) h) in
       let z : startOf ends i + (getD ends i 0 - startOf ends i) ≡ getD ends i 0 = omega arith in
       let y : 0 + startOf ends i ≡ startOf ends i = omega arith in
       let s = w .sofar in
-      let qn : n ≡ countKept m (startOf ends i) (getD ends i 0 - startOf ends i) = q ∙ (λ j. countKept m (range-is .0 j) (range-is .1 j - range-is .0 j)) in
       let t : countKept m 0 (getD ends i 0) ≡ countKept m 0 (startOf ends i) + countKept m (startOf ends i) (getD ends i 0 - startOf ends i) =
       ap (countKept m 0) (sym z) ∙ count-add m 0 (startOf ends i) (getD ends i 0 - startOf ends i) ∙ ap (λ (x : ℕ). countKept m 0 (startOf ends i) + countKept m x (getD ends i 0 - startOf ends i)) y in
       omega arith
 
-  pub listed-room : items + n ≤ r .upper
-  listed-room = let a = listed-more in let b = count-most m 0 (getD ends i 0) in let u = range-is .1 in omega arith
+  pub listed-room : items + n ≤ getD ends i 0
+  listed-room = let a = listed-more in let b = count-most m 0 (getD ends i 0) in omega arith
 
-  pub listed-in : 0 < n → Listed m ends (lists + 1) (items + n) (i + 1)
-  listed-in k =
-      let p : listKept m ends i ≡ true = list-left m ends i r n e q ∙ lt-ltb 0 n k in
-      let s : i + 1 ≡ suc i = omega arith in
+  pub listed-next : (b : ℕ) → b ≡ bit (ltb 0 n) → Listed m ends (lists + b) (items + n) (i + 1)
+  listed-next b e =
       record {
-        counted = counted-in (listKept m ends) 0 (length ends) lists i (w .counted) h p;
+        counted = counted-bit (listKept m ends) 0 (length ends) lists i b (w .counted) h (list-left m ends i n b q e);
         onward = omega arith;
         rising = w .rising;
-        sofar = listed-more ∙ ap (λ (x : ℕ). countKept m 0 (startOf ends x)) (sym s);
-      }
-
-  pub listed-out : n ≤ 0 → Listed m ends lists items (i + 1)
-  listed-out k =
-      let p : listKept m ends i ≡ false = list-left m ends i r n e q ∙ le-ltb 0 n k in
-      let s : i + 1 ≡ suc i = omega arith in
-      let z : items ≡ items + n = omega arith in
-      record {
-        counted = counted-out (listKept m ends) 0 (length ends) lists i (w .counted) h p;
-        onward = omega arith;
-        rising = w .rising;
-        sofar = z ∙ listed-more ∙ ap (λ (x : ℕ). countKept m 0 (startOf ends x)) (sym s);
+        sofar = listed-more ∙ ap (countKept m 0) (start-next ends i);
       }
 
 pub listed-end : (m : ℕ → Bool) (ends : List ℕ) (lists items i : ℕ) → Listed m ends lists items i → length ends ≤ i → ListsLeft m ends lists items

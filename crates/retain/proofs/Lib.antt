@@ -22,5 +22,6 @@ pub mod Spots
 pub mod Running
 pub mod Whole
 pub mod Spans
+pub mod Parting
 pub mod Sliced
 pub mod Weaving

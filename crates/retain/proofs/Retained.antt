@@ -214,8 +214,8 @@ module _ (w : List ℕ) (f : wellFormed w ≡ true) (leaf : ℕ → Bool) where
   pub its-bodies : Bodies (keyBody w) (valEndBody w) (valBody w) (timeEndBody w) (timeBody w) (diffEndBody w) (diffBody w)
   its-bodies =
       record {
-        overVals = record { rows = val-rows; rise = val-ends-rise; last = rise-last (valEndBody w) (nv w) (parts w f .valEndsRise) ∙ sym (length-vals (contentsOf w) w its-place) };
-        overTimes = record { rows = time-rows; rise = time-ends-rise; last = rise-last (timeEndBody w) (nt w) (parts w f .timeEndsRise) ∙ sym (length-times (contentsOf w) w its-place) };
+        overVals = record { rows = val-rows; rises = record { rise = val-ends-rise; last = rise-last (valEndBody w) (nv w) (parts w f .valEndsRise) ∙ sym (length-vals (contentsOf w) w its-place) } };
+        overTimes = record { rows = time-rows; rises = record { rise = time-ends-rise; last = rise-last (timeEndBody w) (nt w) (parts w f .timeEndsRise) ∙ sym (length-times (contentsOf w) w its-place) } };
         timeRows = length-diff-ends (contentsOf w) w its-place ∙ sym (length-times (contentsOf w) w its-place);
         diffsWithin = diffs-within;
         diffsStep = ends-step (diffEndBody w) (nd w) (parts w f .diffEndsStep);

@@ -7,7 +7,7 @@ use native.Mathlib.Omega.{arith}
 use lib.Dec.{ltb, leb}
 use lib.ListN.{length, take, drop, getD}
 use lib.Seq.{drop-cons}
-use borrow.Author.Tests.{lt-ltb, ltb-true, ltb-false, leb-true, leb-false}
+use borrow.Author.Tests.{ltb-true, ltb-false, leb-true, leb-false}
 use Rattle.chunk.specs.declared.Range.{Range}
 use Rattle.chunk.specs.Contents.{startOf, childRange}
 use Rattle.chunk.specs.Entry.{keep}
@@ -17,7 +17,7 @@ use Rattle.retain.specs.declared.Keep.the-variants.{All, Open, Shut}
 use Rattle.retain.specs.Frontier.{isOpen}
 use Rattle.retain.specs.Keep.{timeKept}
 use Rattle.retain.specs.Layers.{bit, countKept, hasDiff, EndsStep}
-use Rattle.retain.proofs.Counts.{Counted, counted-in, counted-out, count-most, count-add, range-lower, has-within}
+use Rattle.retain.proofs.Counts.{count-most, count-add, range-lower, range-upper, has-within}
 
 -- the same test, the same count
 pub count-same : (m p : ℕ → Bool) (i n : ℕ) → ((k : ℕ) → i ≤ k → k < i + n → m k ≡ p k) → countKept m i n ≡ countKept p i n
@@ -84,11 +84,11 @@ module _ (times corners diffEnds : List ℕ) where
   count-all i n = count-same (hasDiff diffEnds) (timeKept All times corners diffEnds) i n (λ k a b. by-test (hasDiff diffEnds k) (λ q. simp q) (λ q. simp q))
 
   -- of an extract, where each has a diff
-  module _ (i n : ℕ) (h : i + n ≤ length times) (full : countKept (hasDiff diffEnds) i n ≡ n) where
+  module _ (i n : ℕ) (h : i + n ≤ length times) (full : (k : ℕ) → i ≤ k → k < i + n → hasDiff diffEnds k ≡ true) where
     pub count-open : length (keep (isOpen corners) (take n (drop i times))) ≡ countKept (timeKept Open times corners diffEnds) i n
     count-open =
         open-count (isOpen corners) times i n h
-        ∙ count-same (λ (k : ℕ). isOpen corners (getD times k 0)) (timeKept Open times corners diffEnds) i n (λ k a b. let q : hasDiff diffEnds k ≡ true = count-full (hasDiff diffEnds) i n full k a b in simp q)
+        ∙ count-same (λ (k : ℕ). isOpen corners (getD times k 0)) (timeKept Open times corners diffEnds) i n (λ k a b. let q : hasDiff diffEnds k ≡ true = full k a b in simp q)
 
     pub open-most : length (keep (isOpen corners) (take n (drop i times))) ≤ n
     open-most = let o = open-count (isOpen corners) times i n h in let m = count-most (λ (k : ℕ). isOpen corners (getD times k 0)) i n in omega arith
@@ -99,7 +99,7 @@ module _ (times corners diffEnds : List ℕ) where
         let o = open-count (isOpen corners) times i n h in
         let both = count-others p i n in
         let s : countKept (λ (k : ℕ). not (p k)) i n ≡ countKept (timeKept Shut times corners diffEnds) i n =
-        count-same (λ (k : ℕ). not (p k)) (timeKept Shut times corners diffEnds) i n (λ k a b. let q : hasDiff diffEnds k ≡ true = count-full (hasDiff diffEnds) i n full k a b in simp q) in
+        count-same (λ (k : ℕ). not (p k)) (timeKept Shut times corners diffEnds) i n (λ k a b. let q : hasDiff diffEnds k ≡ true = full k a b in simp q) in
         omega arith
 
 -- ---- the same as code has it
@@ -129,20 +129,11 @@ end-bit ends i lower s h lo =
 pub list-bit : (ends : List ℕ) (i : ℕ) (r : Range) → EndsStep ends → i < length ends → r ≡ childRange ends i → (r .lower ≤ r .upper) × (r .upper - r .lower ≡ bit (hasDiff ends i))
 unfolding childRange
 list-bit ends i r s h e =
-    let hi : r .upper ≡ getD ends i 0 = ap (λ (x : Range). x .upper) e ∙ simp (lt-ltb i (length ends) h) in
-    rw hi (end-bit ends i (r .lower) s h (range-lower ends i r e h))
+    rw (range-upper ends i r e h) (end-bit ends i (r .lower) s h (range-lower ends i r e h))
 
 pub bit-and : (a b : Bool) → bit a * bit b ≡ bit (a && b)
 unfolding bit
 bit-and a b = by-test a (λ k. simp k (omega arith)) (λ k. simp k (omega arith))
-
--- one more is looked at
-pub counted-bit : (m : ℕ → Bool) (from to count i b : ℕ) → Counted m from to count i → i < to → b ≡ bit (m i) → Counted m from to (count + b) (i + 1)
-unfolding bit
-counted-bit m from to count i b w h e =
-    by-test (m i)
-    (λ k. let q : b ≡ 1 = simp k at e in rw q (counted-in m from to count i w h k))
-    (λ k. let q : count + b ≡ count = (let z : b ≡ 0 = simp k at e in omega arith) in rw q (counted-out m from to count i w h k))
 
 -- past the last end none has a diff
 pub count-top : (keep : Keep) (times corners diffEnds : List ℕ) (from to : ℕ) → length diffEnds ≤ to

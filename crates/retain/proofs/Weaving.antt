@@ -60,8 +60,8 @@ pub over-within : (items ends : List ℕ) (n i : ℕ) → Over items ends n → 
 over-within items ends n i o h =
     let r = o .rows in
     let e : startOf ends (length ends) ≡ getD ends (length ends - 1) 0 = (let z : length ends ≡ suc (length ends - 1) = omega arith in ap (startOf ends) z) in
-    let u = ends-up ends i (length ends - 1) (o .rise) (omega arith) (omega arith) in
-    let l = o .last in omega arith
+    let u = ends-up ends i (length ends - 1) (o .rises .rise) (omega arith) (omega arith) in
+    let l = o .rises .last in omega arith
 
 module _ (m : ℕ → Bool) (vals timeEnds times diffEnds diffs : List ℕ) (o : Over vals timeEnds (length times)) (v t : ℕ) where
   -- the times of the next value
@@ -151,11 +151,11 @@ module _ (m : ℕ → Bool) (keys valEnds vals timeEnds times diffEnds diffs : L
       let f : length (drop (v + v) (drop (k + k) out)) ≡ t + (t + t) = length-drop (v + v) (drop (k + k) out) ∙ omega arith in
       record {
         size = h;
-        top = writing-start valueStays keys valEnds (b .overVals .rows) k (take (k + k) out) (b .overVals .rise) (l .keysLeft) (length-take-le (k + k) out (omega arith));
+        top = writing-start valueStays keys valEnds (b .overVals .rows) k (take (k + k) out) (b .overVals .rises .rise) (l .keysLeft) (length-take-le (k + k) out (omega arith));
         woven =
             record {
               size = d;
-              values = writing-start m vals timeEnds (b .overTimes .rows) v (take (v + v) (drop (k + k) out)) (b .overTimes .rise) (l .valsLeft) (length-take-le (v + v) (drop (k + k) out) (omega arith));
+              values = writing-start m vals timeEnds (b .overTimes .rows) v (take (v + v) (drop (k + k) out)) (b .overTimes .rises .rise) (l .valsLeft) (length-take-le (v + v) (drop (k + k) out) (omega arith));
               leaves = leaving-start m times diffEnds diffs t (drop (v + v) (drop (k + k) out)) (l .timesLeft) f;
             };
       }
@@ -197,13 +197,13 @@ module _ (m : ℕ → Bool) (keys valEnds vals timeEnds times diffEnds diffs : L
       let R : List ℕ = drop (k + k) out in
       let o = w .woven in
       let sk = silent valueStays keys valEnds (b .overVals .rows) (length keys - i) k _ start total at i (omega arith) (w .top) h in
-      let ek = b .overVals .last in
+      let ek = b .overVals .rises .last in
       let hs : start ≤ length vals = omega (arith, sk .0) in
       let zk : countKept valueStays start (length vals - start) ≡ 0 = ap (λ (n : ℕ). countKept valueStays start (n - start)) (sym ek) ∙ sk .1 in
       let pv = writing-left m vals timeEnds (b .overTimes .rows) v _ time written total start (o .values) hs in
       let hv : v ≤ total = omega arith in
       let sv = silent m vals timeEnds (b .overTimes .rows) (length vals - start) v _ time written total start (omega arith) (o .values) hv in
-      let ev = b .overTimes .last in
+      let ev = b .overTimes .rises .last in
       let zv : countKept m time (length times - time) ≡ 0 = ap (λ (n : ℕ). countKept m time (n - time)) (sym ev) ∙ sv .1 in
       let pt = o .leaves .place in
       let kw : take (k + k) out ≡ nodesOut valueStays keys valEnds = writing-end valueStays keys valEnds (b .overVals .rows) k _ start total at i (w .top) h in

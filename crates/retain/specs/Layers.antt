@@ -91,11 +91,19 @@ pub record Ready (times corners diffEnds : List ℕ) : Type 0 where
   pub steps : EndsStep diffEnds
   pub stairs : ordered corners ≡ true
 
--- items that each have a list below: as many ends, rising to the count of the items below
-pub record Over (items ends : List ℕ) (n : ℕ) : Type 0 where
-  pub rows : length items ≡ length ends
+-- each time has a diff
+abbrev pub AllDiffs : List ℕ → List ℕ → Type 0
+AllDiffs times diffEnds = (i : ℕ) → i < length times → hasDiff diffEnds i ≡ true
+
+-- ends that rise, up to n
+pub record RisesTo (ends : List ℕ) (n : ℕ) : Type 0 where
   pub rise : risesFrom 0 ends ≡ true
   pub last : startOf ends (length ends) ≡ n
+
+-- items that each have a list below, of n items in all: as many ends as items
+pub record Over (items ends : List ℕ) (n : ℕ) : Type 0 where
+  pub rows : length items ≡ length ends
+  pub rises : RisesTo ends n
 
 -- seven bodies that belong together: lists below the keys and below the values, and diff ends that step, within the diffs
 pub record Bodies (keys valEnds vals timeEnds times diffEnds diffs : List ℕ) : Type 0 where

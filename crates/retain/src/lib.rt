@@ -30,6 +30,7 @@ mod look;
 mod one_by_one;
 mod ranges;
 mod runs;
+mod sides;
 mod stay;
 
 // Which times that have a diff stay: every one, those with an index below a number or from it on, those open under the corners, the others.
@@ -45,6 +46,14 @@ pub enum Keep {
 pub struct Lists {
     pub keys: usize,
     pub vals: usize,
+}
+
+// How many keys and values are left with an open time, and how many with one that isn't.
+pub struct Both {
+    pub open_keys: usize,
+    pub open_vals: usize,
+    pub shut_keys: usize,
+    pub shut_vals: usize,
 }
 
 // How far a walk over the lists is: so many values and times are written, and the next list starts at this time.

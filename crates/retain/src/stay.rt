@@ -159,9 +159,7 @@ fn count_values(
         let lower = list.lower;
         let upper = list.upper;
         let left = count_times(keep, times, corners, diff_ends, lower, upper);
-        if 0 < left {
-            count += 1;
-        }
+        count += bit_of(0 < left);
         i += 1;
     }
     count
@@ -188,10 +186,8 @@ pub(crate) fn count_lists(
         let lower = list.lower;
         let upper = list.upper;
         let left = count_values(keep, times, corners, diff_ends, time_ends, lower, upper);
-        if 0 < left {
-            keys += 1;
-            vals += left;
-        }
+        keys += bit_of(0 < left);
+        vals += left;
         i += 1;
     }
     Lists { keys, vals }

@@ -146,7 +146,7 @@ count-lists-requires c κs =
     let a = c .before .before .before .before .before .before .before .before .before .before in
     let q = a .pre .0 .1 in
     let b = cut-bodies (a .args .words .now) (a .pre .0 .0) (a .args .keep) (a .args .corners .now) _ _ _ _ _ _ _ (cut-keys (a .args .found) (a .args .words .now) q) (cut-val-ends (a .args .found) (a .args .words .now) q) (cut-vals (a .args .found) (a .args .words .now) q) (cut-time-ends (a .args .found) (a .args .words .now) q) (cut-times (a .args .found) (a .args .words .now) q) (cut-diff-ends (a .args .found) (a .args .words .now) q) (cut-diffs (a .args .found) (a .args .words .now) q) in
-    (ready _ _ _ _ _ _ _ _ b (a .pre .1 .0 .0), b .overVals .rise)
+    (ready _ _ _ _ _ _ _ _ b (a .pre .1 .0 .0), b .overVals .rises .rise)
 
 write-bodies-requires : tie.Need-write-bodies-requires
 write-bodies-requires c κs =

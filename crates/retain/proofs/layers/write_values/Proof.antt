@@ -104,7 +104,7 @@ loop-less c = search needs
 
 -- src/layers.rt:82:5
 loop-again : tie.Need-loop-again Inv-loop μ-loop
-loop-again c = let a = c .before .before .before .before .before .before .before .before .before .before .before .before .before .before .before .before in let l = c .before .before .before .before .before .before .before .before .loop in let v = l .inv .1 .1 .1 in let h = within _ _ _ (c .before .before .before .before .before .before .before .loop-test .taken) (a .pre .1 .1 .0 .1) in let r = c .before .before .before .before .write-list in let n = r .kept .1 .1 .1 .1 .1 .1 .1 .1 .1 .1 .0 in let o = a .pre .1 .0 in let f = a .args .base + a .args .nv + a .args .nv in ⊎-elim (λ w. let p = put-value _ _ _ _ _ _ o _ _ (l .out) _ (a .args .base) f _ _ (l .at) (l .i) _ refl (l .inv .1 .0) v h n (r .ensures .0) (r .ensures .1) (w .0 .taken) (a .args .base + l .at) (a .args .base + a .args .nv + l .at) _ _ refl (omega arith) (c .bit-of .ensures) (w .2) in (p .0 ∙ l .inv .0, (p .1 .0, (omega arith, p .1 .1)))) (λ w. let p = pass-value _ _ _ _ _ _ o _ _ (l .out) _ (a .args .base) f _ _ (l .at) (l .i) _ refl (l .inv .1 .0) v h n (r .ensures .0) (r .ensures .1) (w .0 .left) _ _ (c .bit-of .ensures) (w .1) in (p .0 ∙ l .inv .0, (p .1 .0, (omega arith, p .1 .1)))) (c .before .if1 .came)
+loop-again c = let a = c .before .before .before .before .before .before .before .before .before .before .before .before .before .before .before .before in let l = c .before .before .before .before .before .before .before .before .loop in let v = l .inv .1 .1 .1 in let h = within _ _ _ (c .before .before .before .before .before .before .before .loop-test .taken) (a .pre .1 .1 .0 .1) in let r = c .before .before .before .before .write-list in let n = r .kept .1 .1 .1 .1 .1 .1 .1 .1 .1 .1 .0 in let o = a .pre .1 .0 in let f = a .args .base + a .args .nv + a .args .nv in ⊎-elim (λ w. let p = put-value _ _ _ _ _ _ o _ _ (l .out) _ (a .args .base) f _ _ (l .at) (l .i) _ refl (l .inv .1 .0) v h n (r .ensures .0) (r .ensures .1) (w .0 .taken) (a .args .base + l .at) (a .args .base + a .args .nv + l .at) _ _ refl (omega arith) (c .bit-of .ensures) (w .2) in (p .0 ∙ l .inv .0, (p .1 .0, (omega (arith, c .before .before .before .before .before .before .before .loop-test .taken), p .1 .1)))) (λ w. let p = pass-value _ _ _ _ _ _ o _ _ (l .out) _ (a .args .base) f _ _ (l .at) (l .i) _ refl (l .inv .1 .0) v h n (r .ensures .0) (r .ensures .1) (w .0 .left) _ _ (c .bit-of .ensures) (w .1) in (p .0 ∙ l .inv .0, (p .1 .0, (omega (arith, c .before .before .before .before .before .before .before .loop-test .taken), p .1 .1)))) (c .before .if1 .came)
 
 -- src/layers.rt:56:1
 same-length : tie.Need-same-length Inv-loop μ-loop

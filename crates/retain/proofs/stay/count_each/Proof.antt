@@ -2,9 +2,8 @@
 use Prim.Native.Nat.{_-_}
 use native.Mathlib.Omega.{arith}
 use Rattle.retain.specs.Keep.{timeKept}
-use Rattle.retain.proofs.Counts.{Counted, counted-start, counted-end}
+use Rattle.retain.proofs.Counts.{Counted, counted-start, counted-bit, counted-end}
 use Rattle.retain.proofs.Stairs.{bit-one}
-use Rattle.retain.proofs.Steps.{counted-bit}
 use borrow.Author.Needs.{needs}
 use Rattle.retain.proofs.stay.count_each.Statement.{statement}
 use Rattle.retain.proofs.stay.count_each.Tie as tie

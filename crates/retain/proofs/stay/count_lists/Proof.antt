@@ -1,11 +1,11 @@
 -- `retain::stay::count_lists` meets its contract: what is counted and what is left to count is the count of all.
 use Prim.Native.Nat.{_-_}
-use mathlib.Core.Logic.{⊎-elim}
 use native.Mathlib.Omega.{arith}
 use lib.ListN.{length}
 use Rattle.retain.specs.Keep.{timeKept}
 use Rattle.retain.specs.Layers.{listKept}
-use Rattle.retain.proofs.Counts.{Listed, listed-start, listed-room, listed-in, listed-out, listed-end}
+use Rattle.retain.proofs.Counts.{Listed, listed-start, listed-room, listed-next, listed-end, range-counts, range-upper}
+use Rattle.retain.proofs.Stairs.{bit-one}
 use borrow.Author.Needs.{needs}
 use Rattle.retain.proofs.stay.count_lists.Statement.{statement}
 use Rattle.retain.proofs.stay.count_lists.Tie as tie
@@ -25,13 +25,20 @@ child-range-requires c κs = search needs
 count-values-requires : tie.Need-count-values-requires Inv-loop μ-loop
 count-values-requires c κs = c .before .before .before .before .before .before .before .before .pre .0
 
+bit-of-requires : tie.Need-bit-of-requires Inv-loop μ-loop
+bit-of-requires c κs = search needs
+
 add-keys : tie.Need-add-keys Inv-loop μ-loop
-add-keys c = let w = c .before .before .before .before .loop .inv .counted .within in omega arith
+add-keys c = let w = c .before .before .before .before .loop .inv .counted .within in let m = bit-one _ _ (c .bit-of .ensures) in omega arith
 
 add-vals : tie.Need-add-vals Inv-loop μ-loop
 add-vals c =
     let l = c .before .before .before .before .loop in
-    let r = listed-room _ _ _ _ _ (l .inv) (c .before .before .before .loop-test .taken) _ _ (c .before .before .child-range .ensures) (c .before .count-values .ensures) in
+    let t = c .before .before .before .loop-test .taken in
+    let e = c .before .before .child-range .ensures in
+    let k = range-counts _ _ (l .i) _ _ e (c .before .count-values .ensures) in
+    let r = listed-room _ _ _ _ (l .i) (l .inv) t _ k in
+    let u = range-upper _ (l .i) _ e t in
     omega (arith, c .before .before .child-range .ok)
 
 add-i : tie.Need-add-i Inv-loop μ-loop
@@ -45,11 +52,8 @@ loop-again c =
     let l = c .before .before .before .before .loop in
     let t = c .before .before .before .loop-test .taken in
     let e = c .before .before .child-range .ensures in
-    let q = c .before .count-values .ensures in
-    ⊎-elim
-    (λ w. rw (w .1, w .2) (listed-in _ _ _ _ _ (l .inv) t _ _ e q (w .0 .taken)))
-    (λ w. rw (w .1, w .2) (listed-out _ _ _ _ _ (l .inv) t _ _ e q (w .0 .left)))
-    (c .if1 .came)
+    let k = range-counts _ _ (l .i) _ _ e (c .before .count-values .ensures) in
+    listed-next _ _ _ _ (l .i) (l .inv) t _ k _ (c .bit-of .ensures)
 
 returns : tie.Need-returns Inv-loop μ-loop
 returns c = listed-end _ _ _ _ _ (c .before .loop .inv) (c .loop-test .left)
@@ -63,6 +67,7 @@ count-lists-spec =
     loop-holds
     child-range-requires
     count-values-requires
+    bit-of-requires
     add-keys
     add-vals
     add-i

@@ -8,7 +8,7 @@ use borrow.Author.Tests.{eqb-true}
 use Rattle.retain.specs.declared.Keep.{Keep}
 use Rattle.retain.specs.Keep.{timeKept}
 use Rattle.retain.specs.Layers.{countKept}
-use Rattle.retain.proofs.Steps.{count-all, count-open, open-most, count-shut}
+use Rattle.retain.proofs.Steps.{count-all, count-full, count-open, open-most, count-shut}
 use borrow.Author.Needs.{needs}
 use Rattle.retain.proofs.stay.count_range.Statement.{statement}
 use Rattle.retain.proofs.stay.count_range.Tie as tie
@@ -64,7 +64,7 @@ count-open-requires c κs = search needs
 
 -- src/stay.rt:113:17
 returns-2 : tie.Need-returns-2
-returns-2 c = let a = c .before .before .before .before .before .before .before .before .before in let e = c .before .before .before .before .before .count-diffs .ensures in let g = eqb-true _ _ (c .before .before .if1 .taken) in let f = sym e ∙ g in let h = a .pre .0 .few in let b : a .args .from + (a .args .to - a .args .from) ≤ length (a .args .times .now) = omega (arith, a .pre .1 .0, a .pre .1 .1) in c .count-open .ensures ∙ count-open (a .args .times .now) (a .args .corners .now) (a .args .diff-ends .now) (a .args .from) (a .args .to - a .args .from) b f ∙ known (a .args .times .now) (a .args .corners .now) (a .args .diff-ends .now) (a .args .from) (a .args .to - a .args .from) _ _ (c .before .before .before .enum-told2 .given .1)
+returns-2 c = let a = c .before .before .before .before .before .before .before .before .before in let e = c .before .before .before .before .before .count-diffs .ensures in let g = eqb-true _ _ (c .before .before .if1 .taken) in let f = count-full _ _ _ (sym e ∙ g) in let h = a .pre .0 .few in let b : a .args .from + (a .args .to - a .args .from) ≤ length (a .args .times .now) = omega (arith, a .pre .1 .0, a .pre .1 .1) in c .count-open .ensures ∙ count-open (a .args .times .now) (a .args .corners .now) (a .args .diff-ends .now) (a .args .from) (a .args .to - a .args .from) b f ∙ known (a .args .times .now) (a .args .corners .now) (a .args .diff-ends .now) (a .args .from) (a .args .to - a .args .from) _ _ (c .before .before .before .enum-told2 .given .1)
 
 -- src/stay.rt:117:16
 enum-told-3 : tie.Need-enum-told-3
@@ -92,11 +92,11 @@ count-open-requires-2 c κs = search needs
 
 -- src/stay.rt:118:24
 sub-result : tie.Need-sub-result
-sub-result c = let a = c .before .before .before .before .before .before .before .before .before in let e = c .before .before .before .before .before .count-diffs .ensures in let g = eqb-true _ _ (c .before .before .if2 .taken) in let f = sym e ∙ g in let h = a .pre .0 .few in let b : a .args .from + (a .args .to - a .args .from) ≤ length (a .args .times .now) = omega (arith, a .pre .1 .0, a .pre .1 .1) in let s = open-most (a .args .times .now) (a .args .corners .now) (a .args .diff-ends .now) (a .args .from) (a .args .to - a .args .from) b f in let o = c .count-open2 .ensures in omega arith
+sub-result c = let a = c .before .before .before .before .before .before .before .before .before in let e = c .before .before .before .before .before .count-diffs .ensures in let g = eqb-true _ _ (c .before .before .if2 .taken) in let f = count-full _ _ _ (sym e ∙ g) in let h = a .pre .0 .few in let b : a .args .from + (a .args .to - a .args .from) ≤ length (a .args .times .now) = omega (arith, a .pre .1 .0, a .pre .1 .1) in let s = open-most (a .args .times .now) (a .args .corners .now) (a .args .diff-ends .now) (a .args .from) (a .args .to - a .args .from) b f in let o = c .count-open2 .ensures in omega arith
 
 -- src/stay.rt:118:17
 returns-3 : tie.Need-returns-3
-returns-3 c = let a = c .before .before .before .before .before .before .before .before .before in let e = c .before .before .before .before .before .count-diffs .ensures in let g = eqb-true _ _ (c .before .before .if2 .taken) in let f = sym e ∙ g in let h = a .pre .0 .few in let b : a .args .from + (a .args .to - a .args .from) ≤ length (a .args .times .now) = omega (arith, a .pre .1 .0, a .pre .1 .1) in let o = c .count-open2 .ensures in (λ j. g j - o j) ∙ count-shut (a .args .times .now) (a .args .corners .now) (a .args .diff-ends .now) (a .args .from) (a .args .to - a .args .from) b f ∙ known (a .args .times .now) (a .args .corners .now) (a .args .diff-ends .now) (a .args .from) (a .args .to - a .args .from) _ _ (c .before .before .before .enum-told3 .given .1)
+returns-3 c = let a = c .before .before .before .before .before .before .before .before .before in let e = c .before .before .before .before .before .count-diffs .ensures in let g = eqb-true _ _ (c .before .before .if2 .taken) in let f = count-full _ _ _ (sym e ∙ g) in let h = a .pre .0 .few in let b : a .args .from + (a .args .to - a .args .from) ≤ length (a .args .times .now) = omega (arith, a .pre .1 .0, a .pre .1 .1) in let o = c .count-open2 .ensures in (λ j. g j - o j) ∙ count-shut (a .args .times .now) (a .args .corners .now) (a .args .diff-ends .now) (a .args .from) (a .args .to - a .args .from) b f ∙ known (a .args .times .now) (a .args .corners .now) (a .args .diff-ends .now) (a .args .from) (a .args .to - a .args .from) _ _ (c .before .before .before .enum-told3 .given .1)
 
 enum-told-4 : tie.Need-enum-told-4
 enum-told-4 c = search needs

@@ -1,6 +1,6 @@
--- Both sides of an extract where each time has a diff: by how many times of a value are open it is known whether it stays on either.
+-- Whether a value stays: in a filter by where its diffs end, in an extract, where each time has a diff, by how many of its times are open.
 use Prim.Native.Nat.{ℕ, _+_, _-_, _<_, _≤_}
-use mathlib.Core.Path.{_≡_, sym, _∙_, ap}
+use mathlib.Core.Path.{_≡_, refl, sym, _∙_, ap}
 use mathlib.Core.Bool.{true}
 use mathlib.Core.List.{List}
 use native.Mathlib.Omega.{arith}
@@ -13,9 +13,9 @@ use Rattle.laws.proofs.Tests.{by-test}
 use Rattle.retain.specs.declared.Keep.the-variants.{Open, Shut}
 use Rattle.retain.specs.Frontier.{isOpen}
 use Rattle.retain.specs.Keep.{timeKept}
-use Rattle.retain.specs.Layers.{bit, listKept, hasDiff, AllDiffs, RisesTo}
-use Rattle.retain.proofs.Counts.{start-below, start-as, start-counts, list-left}
-use Rattle.retain.proofs.Steps.{count-open, count-shut, start-before}
+use Rattle.retain.specs.Layers.{bit, countKept, listKept, hasDiff, EndsStep, AllDiffs, RisesTo}
+use Rattle.retain.proofs.Counts.{start-below, start-as, start-next, start-counts, list-left}
+use Rattle.retain.proofs.Steps.{count-diffs, count-open, count-shut, start-before}
 use Rattle.retain.proofs.Spans.{ends-up}
 
 -- a list that is there has an item, and ends within the items
@@ -55,3 +55,25 @@ module _ (times corners diffEnds timeEnds : List ℕ) (full : AllDiffs times dif
       list-left m timeEnds i (all - n) b
       (start-counts m timeEnds i lower (all - n) p (ap (λ (x : ℕ). all - x) q ∙ count-shut times corners diffEnds lower all fits each))
       (e ∙ ap bit (left-over n all))
+
+-- a value, before which so many diffs end, and so many with it
+module _ (diffEnds timeEnds : List ℕ) (steps : EndsStep diffEnds) (w : RisesTo timeEnds (length diffEnds)) (i below : ℕ) (h : i < length timeEnds) (p : below ≡ startOf diffEnds (startOf timeEnds i)) where
+  abbrev reach : ℕ
+  reach = getD diffEnds (getD timeEnds i 0 - 1) 0
+
+  reached : startOf diffEnds (getD timeEnds i 0) ≡ reach
+  reached = let e = end-within timeEnds (length diffEnds) i (startOf timeEnds i) w h refl in start-before diffEnds (getD timeEnds i 0) (λ z. omega (arith, e .0))
+
+  -- the next one's diffs start there
+  pub reach-next : reach ≡ startOf diffEnds (startOf timeEnds (i + 1))
+  reach-next = sym reached ∙ ap (startOf diffEnds) (start-next timeEnds i)
+
+  pub standing-left : (b : ℕ) → b ≡ bit (ltb below reach) → b ≡ bit (listKept (hasDiff diffEnds) timeEnds i)
+  standing-left b e =
+      let s : ℕ = startOf timeEnds i in
+      let t : ℕ = getD timeEnds i 0 in
+      let a = end-within timeEnds (length diffEnds) i s w h refl in
+      let z : s + (t - s) ≡ t = omega (arith, a .0) in
+      let c : countKept (hasDiff diffEnds) s (t - s) + startOf diffEnds s ≡ startOf diffEnds (s + (t - s)) = count-diffs diffEnds s (t - s) steps (omega (arith, a .1)) in
+      let r : startOf diffEnds (s + (t - s)) ≡ reach = ap (startOf diffEnds) z ∙ reached in
+      list-left (hasDiff diffEnds) timeEnds i (reach - below) b (omega arith) (e ∙ ap bit (left-over below reach))

@@ -1,4 +1,4 @@
--- Which entries are picked by each rule: those that stand, the first n, the rest, the open ones, the others.
+-- Which entries are picked by each rule: those that stand, the open ones, the others.
 use Prim.Native.Nat.{ℕ, zero, suc, _+_, _-_, _<_, _≤_}
 use mathlib.Core.Path.{_≡_, refl, sym, _∙_, ap}
 use mathlib.Core.Bool.{Bool, true, false, not, cond, _&&_, _||_}
@@ -12,7 +12,7 @@ use Rattle.chunk.specs.Bodies.{times, diffEndsFrom}
 use Rattle.chunk.specs.Words.{wellFormed, entries, timeBody, diffEndBody}
 use Rattle.chunk.specs.Contents.{startOf}
 use Rattle.laws.proofs.Tests.{by-test, and-left, and-right}
-use Rattle.retain.specs.declared.Keep.the-variants.{All, Below, From, Open, Shut}
+use Rattle.retain.specs.declared.Keep.the-variants.{All, Open, Shut}
 use Rattle.retain.specs.Layers.{pick, hasDiff}
 use Rattle.retain.specs.Keep.{retainedOf}
 use Rattle.retain.specs.Frontier.{isOpen}
@@ -43,28 +43,6 @@ module _ (leaf : ℕ → Bool) (all : List ℕ) where
       picks-settled es (suc i) (onto leaf all (stands e) n) (and-right (stands e) _ v) (next-ends leaf all e es i n d) (next-start leaf all e es i n d) in
       simp (h, ih)
 
-pick-below : (top : ℕ) (es : List Entry) (i n : ℕ) → top ≡ i + n → pick (λ (t : ℕ). ltb t top) i es ≡ take n es
-unfolding pick
-pick-below top [] i zero h = refl
-pick-below top [] i (suc n) h = refl
-pick-below top (e ∷ es) i zero h = simp (le-ltb i top (omega arith)) (pick-past top es (suc i) (omega arith))
-  where
-    pick-past : (top : ℕ) (es : List Entry) (i : ℕ) → top ≤ i → pick (λ (t : ℕ). ltb t top) i es ≡ []
-    pick-past top [] i h = refl
-    pick-past top (e ∷ es) i h = simp (le-ltb i top h) (pick-past top es (suc i) (omega arith))
-pick-below top (e ∷ es) i (suc n) h = simp (lt-ltb i top (omega arith)) (ap (λ (l : List Entry). e ∷ l) (pick-below top es (suc i) n (omega arith)))
-
-pick-from : (low : ℕ) (es : List Entry) (i n : ℕ) → low ≡ i + n → pick (λ (t : ℕ). leb low t) i es ≡ drop n es
-unfolding pick
-pick-from low [] i zero h = refl
-pick-from low [] i (suc n) h = refl
-pick-from low (e ∷ es) i zero h = simp (le-leb low i (omega arith)) (ap (λ (l : List Entry). e ∷ l) (pick-late low es (suc i) (omega arith)))
-  where
-    pick-late : (low : ℕ) (es : List Entry) (i : ℕ) → low ≤ i → pick (λ (t : ℕ). leb low t) i es ≡ es
-    pick-late low [] i h = refl
-    pick-late low (e ∷ es) i h = simp (le-leb low i h) (ap (λ (l : List Entry). e ∷ l) (pick-late low es (suc i) (omega arith)))
-pick-from low (e ∷ es) i (suc n) h = simp (lt-leb low i (omega arith)) (pick-from low es (suc i) n (omega arith))
-
 pick-times : (q : ℕ → Bool) (all : List ℕ) (es : List Entry) (i : ℕ) → drop i all ≡ times es → pick (λ (t : ℕ). q (getD all t 0)) i es ≡ keep (λ (e : Entry). q (e .time)) es
 unfolding pick keep
 pick-times q all [] i d = refl
@@ -81,18 +59,6 @@ module _ (w : List ℕ) (f : wellFormed w ≡ true) (corners : List ℕ) where
   retained-all = picks-all (λ (i : ℕ). true) (diffEndBody w) (λ i. refl) (entries w) 0 0 (sym (diffEnds-in w f (λ i. true))) refl
 
   module _ (v : every stands (entries w) ≡ true) where
-    pub retained-below : (n : ℕ) → retainedOf (Below n) corners w ≡ take n (entries w)
-    unfolding retainedOf
-    retained-below n =
-        picks-settled (λ (i : ℕ). ltb i n) (diffEndBody w) (entries w) 0 0 v (sym (diffEnds-in w f (λ i. true))) refl
-        ∙ pick-below n (entries w) 0 n (omega arith)
-
-    pub retained-from : (n : ℕ) → retainedOf (From n) corners w ≡ drop n (entries w)
-    unfolding retainedOf
-    retained-from n =
-        picks-settled (λ (i : ℕ). leb n i) (diffEndBody w) (entries w) 0 0 v (sym (diffEnds-in w f (λ i. true))) refl
-        ∙ pick-from n (entries w) 0 n (omega arith)
-
     pub retained-open : retainedOf Open corners w ≡ keptOf corners (entries w)
     unfolding retainedOf keptOf
     retained-open =

@@ -10,20 +10,23 @@ use mir.Val.{Fits}
 use mir.Syntax.{w64}
 use Rattle.chunk.specs.Entry.{Entry, every, rising, stands, keep}
 use Rattle.chunk.specs.Bodies.{keys, vals, times, diffs, valEnds, timeEnds, diffEnds, chunkOf}
-use Rattle.chunk.specs.Words.{wellFormed, entries, keyBody, valEndBody, valBody, timeEndBody, timeBody, diffEndBody, diffBody, nk, nv, nt, nd, limit, tableSize, endsRise, endsStep, risesFrom, size}
+use Rattle.chunk.specs.Words.{wellFormed, settled, entries, keyBody, valEndBody, valBody, timeEndBody, timeBody, diffEndBody, diffBody, nk, nv, nt, nd, limit, tableSize, endsRise, endsStep, risesFrom, size}
 use Rattle.chunk.specs.declared.Contents.{Contents}
 use Rattle.chunk.specs.Contents.{startOf, tableOf, contentsOf, Placed}
-use Rattle.chunk.proofs.Placed.{placed, length-keys, length-val-ends, length-vals, length-time-ends, length-times, length-diff-ends, length-diffs}
+use Rattle.chunk.proofs.Placed.{placed, cut-keys, cut-val-ends, cut-vals, cut-time-ends, cut-times, cut-diff-ends, cut-diffs, length-keys, length-val-ends, length-vals, length-time-ends, length-times, length-diff-ends, length-diffs}
 use borrow.Author.Tests.{ltb-true, eqb-true, leb-true}
 use Rattle.laws.proofs.Tests.{by-test, and-left, and-right, and-both}
 use Rattle.laws.proofs.OneChunk.{front-is-chunk, bodies-in}
 use Rattle.laws.proofs.Layers.{Seven}
 use Rattle.laws.proofs.Frame.{parts}
-use Rattle.retain.specs.Layers.{countKept, pick, pickAt, countUp, nodes, itemOf, endOf, listKept, hasDiff, nodesOut, leavesOut, EndsWithin, EndsStep, ListsLeft, Bodies, Left, layersOut}
+use Rattle.retain.specs.Layers.{countKept, pick, pickAt, countUp, nodes, itemOf, endOf, listKept, hasDiff, nodesOut, leavesOut, EndsWithin, EndsStep, AllDiffs, RisesTo, ListsLeft, Bodies, Left, layersOut}
 use Rattle.retain.specs.declared.Keep.{Keep}
-use Rattle.retain.specs.Keep.{keepsAt, timeKept, retainedOf}
+use Rattle.retain.specs.declared.Keep.the-variants.{All}
+use Rattle.retain.specs.Ranges.{part}
+use Rattle.retain.specs.Keep.{keepsAt, timeKept, retainedOf, ListsOf}
 use Rattle.retain.proofs.Filtered.{picked-keys, picked-valEnds, picked-vals, picked-timeEnds, pickAt-list, pickAt-diffs, picked-stands, length-pick, diffEnds-up, keep-all, nodes-pick, picked-few}
-use Rattle.retain.proofs.Counts.{count-most}
+use Rattle.retain.proofs.Counts.{count-most, start-as}
+use Rattle.retain.proofs.Steps.{count-diffs, count-full}
 
 -- a layer's nodes are as many as its lists that have an item left
 pub nodes-count : (m : ℕ → Bool) (items ends : List ℕ) → length items ≡ length ends → length (nodes m itemOf 0 0 items ends) ≡ countKept (listKept m ends) 0 (length items)
@@ -63,6 +66,12 @@ step-low low (e ∷ ends) top h =
     (λ k. let q : e ≡ low = eqb-true _ _ k in omega arith)
     (λ k. let o : (eqb e low || eqb e (suc low)) ≡ true = and-left _ _ h in
     let q : e ≡ suc low = eqb-true _ _ (simp k at o) in omega arith)
+
+-- and end with it
+step-last : (low : ℕ) (ends : List ℕ) (top : ℕ) → endsStep low ends top ≡ true → getD (low ∷ ends) (length ends) 0 ≡ top
+unfolding endsStep
+step-last low [] top h = eqb-true _ _ h
+step-last low (e ∷ ends) top h = step-last e ends top (and-right (eqb e low || eqb e (suc low)) _ h)
 
 step-most : (low : ℕ) (ends : List ℕ) (top i : ℕ) → endsStep low ends top ≡ true → getD ends i 0 ≤ top
 unfolding endsStep
@@ -299,18 +308,76 @@ module _ (w : List ℕ) (f : wellFormed w ≡ true) (leaf : ℕ → Bool) where
       (λ i. layersOut timeStays (keyBody w) (valEndBody w) (valBody w) (timeEndBody w) (timeBody w) (diffEndBody w) (diffBody w) (its-keys k v l i) (its-vals k v l i) ((ht ∙ out-count) i))
       ∙ sym retained
 
--- the same of parts that are the bodies
-module _ (w : List ℕ) (f : wellFormed w ≡ true) (k : Keep) (corners ks ves vs tes ts des ds : List ℕ)
-    (ek : ks ≡ keyBody w) (eve : ves ≡ valEndBody w) (ev : vs ≡ valBody w) (ete : tes ≡ timeEndBody w) (et : ts ≡ timeBody w) (ede : des ≡ diffEndBody w) (ed : ds ≡ diffBody w) where
-  pub cut-bodies : Bodies ks ves vs tes ts des ds
-  cut-bodies = rw (ek, eve, ev, ete, et, ede, ed) (its-bodies w f (λ i. true))
+-- where each end steps up to as many as there are, each list has an item
+all-step : (ends : List ℕ) → endsStep 0 ends (length ends) ≡ true → (i : ℕ) → i < length ends → hasDiff ends i ≡ true
+all-step ends h i k =
+    let c : countKept (hasDiff ends) 0 (length ends) + 0 ≡ startOf ends (0 + length ends) = count-diffs ends 0 (length ends) (ends-step ends (length ends) h) (omega arith) in
+    let z : 0 + length ends ≡ length ends = omega arith in
+    let l : startOf ends (length ends) ≡ length ends = start-as ends (length ends) ∙ step-last 0 ends (length ends) h in
+    let q = ap (startOf ends) z in
+    count-full (hasDiff ends) 0 (length ends) (omega arith) i (omega arith) (omega arith)
 
-  pub cut-left : (nk nv nt room : ℕ) → ListsLeft (listKept (timeKept k ts corners des) tes) ves nk nv → nt ≡ length (retainedOf k corners w) → size w ≤ room
-      → Left (timeKept k ts corners des) ks ves vs tes ts nk nv nt × (tableSize + 2 * nk + 2 * nv + 2 * nt + nt ≤ room)
-  unfolding retainedOf
-  cut-left = rw (ek, eve, ev, ete, et, ede) (its-left w f (keepsAt k (timeBody w) corners))
+-- ends that rise to as many as these
+pub rises-as : (ends : List ℕ) (n m : ℕ) → RisesTo ends n → n ≡ m → RisesTo ends m
+rises-as ends n m r e = record { rise = r .rise; last = r .last ∙ e }
 
-  pub cut-words : (nk nv nt : ℕ) → ListsLeft (listKept (timeKept k ts corners des) tes) ves nk nv → nt ≡ length (retainedOf k corners w)
-      → layersOut (timeKept k ts corners des) ks ves vs tes ts des ds nk nv nt ≡ chunkOf (retainedOf k corners w)
-  unfolding retainedOf
-  cut-words = rw (ek, eve, ev, ete, et, ede, ed) (its-words w f (keepsAt k (timeBody w) corners))
+-- ---- the same of the parts that are cut out
+
+module _ (found : Contents) (w : List ℕ) where
+  abbrev pub keyPart : List ℕ
+  keyPart = part (found .«keys_at») (found .«val_ends_at») w
+
+  abbrev pub valEndPart : List ℕ
+  valEndPart = part (found .«val_ends_at») (found .«vals_at») w
+
+  abbrev pub valPart : List ℕ
+  valPart = part (found .«vals_at») (found .«time_ends_at») w
+
+  abbrev pub timeEndPart : List ℕ
+  timeEndPart = part (found .«time_ends_at») (found .«times_at») w
+
+  abbrev pub timePart : List ℕ
+  timePart = part (found .«times_at») (found .«diff_ends_at») w
+
+  abbrev pub diffEndPart : List ℕ
+  diffEndPart = part (found .«diff_ends_at») (found .«diffs_at») w
+
+  abbrev pub diffPart : List ℕ
+  diffPart = part (found .«diffs_at») (found .size) w
+
+module _ (w : List ℕ) (f : wellFormed w ≡ true) (found : Contents) (p : Placed found w) where
+  pub cut-bodies : Bodies (keyPart found w) (valEndPart found w) (valPart found w) (timeEndPart found w) (timePart found w) (diffEndPart found w) (diffPart found w)
+  cut-bodies = rw (cut-keys found w p, cut-val-ends found w p, cut-vals found w p, cut-time-ends found w p, cut-times found w p, cut-diff-ends found w p, cut-diffs found w p) (its-bodies w f (λ i. true))
+
+  pub cut-settled : settled w ≡ true → AllDiffs (timePart found w) (diffEndPart found w)
+  cut-settled s =
+      let lt = length-times found w p in
+      let ld = length-diff-ends found w p in
+      let e : nd w ≡ length (diffEndBody w) = eqb-true _ _ s ∙ sym ld in
+      rw (cut-times found w p, cut-diff-ends found w p) (λ i h. all-step (diffEndBody w) (ap (endsStep 0 (diffEndBody w)) (sym e) ∙ parts w f .diffEndsStep) i (omega arith))
+
+  module _ (k : Keep) (corners : List ℕ) where
+    pub cut-left : (nk nv nt room : ℕ) → ListsOf k corners w nk nv → nt ≡ length (retainedOf k corners w) → size w ≤ room
+        → Left (timeKept k (timePart found w) corners (diffEndPart found w)) (keyPart found w) (valEndPart found w) (valPart found w) (timeEndPart found w) (timePart found w) nk nv nt
+        × (tableSize + 2 * nk + 2 * nv + 2 * nt + nt ≤ room)
+    unfolding retainedOf
+    cut-left = rw (cut-keys found w p, cut-val-ends found w p, cut-vals found w p, cut-time-ends found w p, cut-times found w p, cut-diff-ends found w p) (its-left w f (keepsAt k (timeBody w) corners))
+
+    pub cut-words : (nk nv nt : ℕ) → ListsOf k corners w nk nv → nt ≡ length (retainedOf k corners w)
+        → layersOut (timeKept k (timePart found w) corners (diffEndPart found w)) (keyPart found w) (valEndPart found w) (valPart found w) (timeEndPart found w) (timePart found w) (diffEndPart found w) (diffPart found w) nk nv nt
+        ≡ chunkOf (retainedOf k corners w)
+    unfolding retainedOf
+    cut-words = rw (cut-keys found w p, cut-val-ends found w p, cut-vals found w p, cut-time-ends found w p, cut-times found w p, cut-diff-ends found w p, cut-diffs found w p) (its-words w f (keepsAt k (timeBody w) corners))
+
+    -- what is counted of the parts is that of the chunk
+    pub cut-lists : (nk nv : ℕ) → ListsLeft (listKept (timeKept k (timePart found w) corners (diffEndPart found w)) (timeEndPart found w)) (valEndPart found w) nk nv → ListsOf k corners w nk nv
+    cut-lists = rw (cut-val-ends found w p, cut-time-ends found w p, cut-times found w p, cut-diff-ends found w p) (λ nk nv l. l)
+
+  -- of a filter by the diff ends alone
+  pub cut-standing : (nk nv : ℕ) → ListsLeft (listKept (hasDiff (diffEndPart found w)) (timeEndPart found w)) (valEndPart found w) nk nv → ListsOf All [] w nk nv
+  cut-standing nk nv l =
+      let e : hasDiff (diffEndPart found w) ≡ timeKept All (timePart found w) [] (diffEndPart found w) = λ j i. and-true (hasDiff (diffEndPart found w) i) j in
+      cut-lists All [] nk nv (rw (sym e) l)
+    where
+      and-true : (b : Bool) → b ≡ (b && true)
+      and-true b = by-test b (λ k. simp k) (λ k. simp k)

@@ -1,11 +1,10 @@
 -- The chunk of a range of a settled chunk's entries, from a range of each of its bodies.
-use Prim.Native.Nat.{ℕ, zero, suc, _-_, _<_, _≤_}
+use Prim.Native.Nat.{ℕ, _-_, _≤_}
 use mathlib.Core.Path.{_≡_, refl, sym, _∙_, ap}
 use mathlib.Core.Bool.{Bool, true}
 use mathlib.Core.List.{List, [], _∷_, map, append-assoc}
 use native.Mathlib.Omega.{arith}
 use lib.ListN.{length, take, drop, length-map, length-drop}
-use lib.Seq.{take-all}
 use borrow.Author.Tests.{leb-true, eqb-true}
 use Rattle.chunk.specs.declared.Contents.{Contents}
 use Rattle.chunk.specs.declared.Range.{Range}
@@ -16,16 +15,11 @@ use Rattle.chunk.specs.Words.{wellFormed, settled, entries, keyBody, valEndBody
 use Rattle.chunk.proofs.Placed.{cut-keys, cut-val-ends, cut-vals, cut-time-ends, cut-times, cut-diffs, length-keys, length-val-ends, length-vals, length-time-ends, length-times, length-diffs}
 use Rattle.laws.proofs.OneChunk.{front-is-chunk, settled-stands}
 use Rattle.laws.proofs.Frame.{parts}
-use Rattle.retain.specs.declared.Keep.{Keep}
-use Rattle.retain.specs.declared.Keep.the-variants.{All, Below, From, Open, Shut}
-use Rattle.retain.specs.Keep.{timeKept, retainedOf}
 use Rattle.retain.specs.Layers.{countUp, listKept, pick}
-use Rattle.retain.specs.Ranges.{part, within, Span, cutEnds, Layered, Ranged, rangesOut, rangeOf}
-use Rattle.retain.proofs.Filtered.{picked-keys, picked-valEnds, picked-vals, picked-timeEnds, diffEnds-up, keep-all, length-pick}
-use Rattle.retain.proofs.Counts.{count-most}
-use Rattle.retain.proofs.Picks.{retained-below, retained-from}
+use Rattle.retain.specs.Ranges.{part, within, Span, cutEnds, Layered, Ranged, rangesOut}
+use Rattle.retain.proofs.Filtered.{picked-keys, picked-valEnds, picked-vals, picked-timeEnds, diffEnds-up, keep-all}
 use Rattle.retain.proofs.Records.{take-every, drop-every}
-use Rattle.retain.proofs.Retained.{keys-in, valEnds-in, vals-in, timeEnds-in, times-in, diffs-in, val-ends-rise, time-ends-rise, rise-last, keys-few, vals-few}
+use Rattle.retain.proofs.Retained.{keys-in, valEnds-in, vals-in, timeEnds-in, times-in, diffs-in, val-ends-rise, time-ends-rise, rise-last, keys-few, vals-few, keyPart, valEndPart, valPart, timeEndPart, timePart, diffPart}
 use Rattle.retain.proofs.Spans.{pick-part, part-map, length-part, list-within, range-items, range-ends}
 
 module _ (w : List ℕ) (f : wellFormed w ≡ true) (found : Contents) (p : Placed found w) (s : settled w ≡ true) where
@@ -138,92 +132,30 @@ module _ (w : List ℕ) (f : wellFormed w ≡ true) (found : Contents) (p : Plac
 
 -- the same of the parts that are cut out
 module _ (w : List ℕ) (f : wellFormed w ≡ true) (found : Contents) (p : Placed found w) (s : settled w ≡ true) where
-  abbrev keyPart : List ℕ
-  keyPart = part (found .«keys_at») (found .«val_ends_at») w
-
-  abbrev valEndPart : List ℕ
-  valEndPart = part (found .«val_ends_at») (found .«vals_at») w
-
-  abbrev valPart : List ℕ
-  valPart = part (found .«vals_at») (found .«time_ends_at») w
-
-  abbrev timeEndPart : List ℕ
-  timeEndPart = part (found .«time_ends_at») (found .«times_at») w
-
-  abbrev timePart : List ℕ
-  timePart = part (found .«times_at») (found .«diff_ends_at») w
-
-  abbrev diffPart : List ℕ
-  diffPart = part (found .«diffs_at») (found .size) w
-
-  pub cut-layers : Layered keyPart valEndPart valPart timeEndPart timePart diffPart
+  pub cut-layers : Layered (keyPart found w) (valEndPart found w) (valPart found w) (timeEndPart found w) (timePart found w) (diffPart found w)
   cut-layers = rw (cut-keys found w p, cut-val-ends found w p, cut-vals found w p, cut-time-ends found w p, cut-times found w p, cut-diffs found w p) (its-layers w f found p s)
 
-  times-all : length timePart ≡ nt w
+  times-all : length (timePart found w) ≡ nt w
   times-all = ap length (cut-times found w p) ∙ length-times found w p
 
   -- a range of the times, and the values that have one of them
-  pub times-within : (tr : Range) → tr .upper ≤ nt w → tr .upper ≤ startOf timeEndPart (length timeEndPart)
+  pub times-within : (tr : Range) → tr .upper ≤ nt w → tr .upper ≤ startOf (timeEndPart found w) (length (timeEndPart found w))
   times-within tr h = let e = cut-layers .timesEnd in let l = times-all in omega arith
 
-  pub vals-within : (tr vr : Range) → Span timeEndPart tr vr → vr .upper ≤ startOf valEndPart (length valEndPart)
+  pub vals-within : (tr vr : Range) → Span (timeEndPart found w) tr vr → vr .upper ≤ startOf (valEndPart found w) (length (valEndPart found w))
   vals-within tr vr v = let e = cut-layers .valsEnd in let l = cut-layers .valRows in let b = v .within in omega arith
 
-  pub cut-ranged : (kr vr tr : Range) (room : ℕ) → Span valEndPart vr kr → Span timeEndPart tr vr → tr .upper ≤ nt w → size w ≤ room
-      → Ranged keyPart valEndPart valPart timeEndPart timePart kr vr tr room
+  pub cut-ranged : (kr vr tr : Range) (room : ℕ) → Span (valEndPart found w) vr kr → Span (timeEndPart found w) tr vr → tr .upper ≤ nt w → size w ≤ room
+      → Ranged (keyPart found w) (valEndPart found w) (valPart found w) (timeEndPart found w) (timePart found w) kr vr tr room
   cut-ranged kr vr tr room pk pv h r =
-      let lk : length keyPart ≡ _ = ap length (cut-keys found w p) ∙ length-keys found w p in
-      let lv : length valPart ≡ _ = ap length (cut-vals found w p) ∙ length-vals found w p in
+      let lk : length (keyPart found w) ≡ _ = ap length (cut-keys found w p) ∙ length-keys found w p in
+      let lv : length (valPart found w) ≡ _ = ap length (cut-vals found w p) ∙ length-vals found w p in
       let lt = times-all in
       let e : nd w ≡ nt w = eqb-true _ _ s in
       record { keysIn = pk; valsIn = pv; timesIn = omega arith; fits = omega arith }
 
-  pub cut-range : (kr vr tr : Range) → Span valEndPart vr kr → Span timeEndPart tr vr → tr .upper ≤ nt w
-      → rangesOut keyPart valEndPart valPart timeEndPart timePart diffPart kr vr tr ≡ chunkOf (part (tr .lower) (tr .upper) (entries w))
+  pub cut-range : (kr vr tr : Range) → Span (valEndPart found w) vr kr → Span (timeEndPart found w) tr vr → tr .upper ≤ nt w
+      → rangesOut (keyPart found w) (valEndPart found w) (valPart found w) (timeEndPart found w) (timePart found w) (diffPart found w) kr vr tr ≡ chunkOf (part (tr .lower) (tr .upper) (entries w))
   cut-range kr vr tr =
       rw (cut-keys found w p, cut-val-ends found w p, cut-vals found w p, cut-time-ends found w p, cut-times found w p, cut-diffs found w p)
       (λ pk pv h. its-range w f found p s kr vr tr pk pv (let l = length-times found w p in omega arith))
-
--- ---- which range stays
-
-take-again : {A : Type 0} (n : ℕ) (l : List A) → take (length (take n l)) l ≡ take n l
-take-again zero l = refl
-take-again (suc n) [] = refl
-take-again (suc n) (x ∷ l) = ap (λ (t : List _). x ∷ t) (take-again n l)
-
-first-part : {A : Type 0} (n j : ℕ) (l : List A) → n ≡ length (take j l) → take j l ≡ part 0 n l
-first-part n j l e = let z : length (take j l) ≡ n - 0 = omega arith in sym (take-again j l) ∙ ap (λ (k : ℕ). take k l) z
-
-last-part : {A : Type 0} (n j all : ℕ) (l : List A) → n ≡ length (drop j l) → all ≡ length l → all - n < all → drop j l ≡ part (all - n) all l
-last-part n j all l e a h =
-    let d = length-drop j l in
-    let z : j ≡ all - n = omega arith in
-    sym (take-all (all - (all - n)) (drop j l) (omega arith)) ∙ ap (λ (k : ℕ). take (all - (all - n)) (drop k l)) z
-
-module _ (w : List ℕ) (f : wellFormed w ≡ true) (corners : List ℕ) where
-  -- no more stay than there are
-  pub few-stay : (k : Keep) → length (retainedOf k corners w) ≤ nt w
-  unfolding retainedOf
-  few-stay k =
-      let m : ℕ → Bool = timeKept k (timeBody w) corners (diffEndBody w) in
-      let l = length-pick m 0 (entries w) in let b = count-most m 0 (length (entries w)) in let c = front-is-chunk w f .counted in omega arith
-
-  ranged : (k : Keep) (n all : ℕ) → settled w ≡ true → n ≡ length (retainedOf k corners w) → all ≡ nt w → rangeOf k n all .lower < rangeOf k n all .upper
-      → (rangeOf k n all .upper ≤ nt w) × (retainedOf k corners w ≡ part (rangeOf k n all .lower) (rangeOf k n all .upper) (entries w))
-  ranged All n all s e a h = absurd (omega arith)
-  ranged (Below j) n all s e a h =
-      let v : every stands (entries w) ≡ true = sym (settled-stands w f) ∙ s in
-      let q = retained-below w f corners v j in
-      let m = few-stay (Below j) in
-      (omega arith, q ∙ first-part n j (entries w) (e ∙ ap length q))
-  ranged (From j) n all s e a h =
-      let v : every stands (entries w) ≡ true = sym (settled-stands w f) ∙ s in
-      let q = retained-from w f corners v j in
-      (omega arith, q ∙ last-part n j all (entries w) (e ∙ ap length q) (a ∙ sym (front-is-chunk w f .counted)) h)
-  ranged Open n all s e a h = absurd (omega arith)
-  ranged Shut n all s e a h = absurd (omega arith)
-
-  -- the same of a range that is said to be it
-  pub ranged-as : (k : Keep) (n all : ℕ) (r : Range) → r ≡ rangeOf k n all → settled w ≡ true → n ≡ length (retainedOf k corners w) → all ≡ nt w → r .lower < r .upper
-      → (r .upper ≤ nt w) × (retainedOf k corners w ≡ part (r .lower) (r .upper) (entries w))
-  ranged-as k n all r q s e a = rw q (ranged k n all s e a)

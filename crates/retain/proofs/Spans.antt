@@ -15,12 +15,16 @@ use Rattle.chunk.specs.declared.Contents.{Contents}
 use Rattle.chunk.specs.Contents.{startOf, layoutWithin}
 use Rattle.laws.proofs.Tests.{by-test, and-left, and-right}
 use Rattle.retain.specs.Layers.{countKept, pick, countUp, nodes, itemOf, endOf, listKept}
-use Rattle.retain.specs.Ranges.{part, within, EndsParted, Span, cutEnds, rangeOut, Layered, Ranged, fromTo}
+use Rattle.retain.specs.Ranges.{part, within, EndsParted, Span, cutEnds, rangeOut, Layered, Ranged}
 use Rattle.retain.proofs.Filtered.{nodes-pick, pick-map}
 use Rattle.retain.proofs.Counts.{start-below, start-as}
 use Rattle.retain.proofs.Stores.{fill-two, fill-three, sets-past}
 use Rattle.retain.proofs.Leaving.{length-countUp}
 use Rattle.retain.proofs.Parts.{OutCuts, out-cuts}
+
+-- a range
+abbrev pub fromTo : ℕ → ℕ → Range
+fromTo a b = record { lower = a; upper = b }
 
 module _ (m : ℕ → Bool) (lo hi : ℕ) (h : lo ≤ hi) (q : (k : ℕ) → m k ≡ within lo hi k) where
   early : (k : ℕ) → k < lo → m k ≡ false

@@ -13,7 +13,7 @@ use Rattle.retain.specs.Layers.{countKept, countUp, nodesOut, leavesOut,
 use Rattle.retain.specs.Onward.{Writing, Leaving, Woven}
 use Rattle.retain.proofs.Writing.{writing-start, writing-next, writing-past, writing-left, writing-within, writing-end, next-above, silent, length-nodesOut}
 use Rattle.retain.proofs.Leaving.{count-from, leaving-start, leaving-more, leaving-end, length-leavesOut}
-use Rattle.retain.proofs.Spans.{ends-up}
+use Rattle.retain.proofs.Parting.{end-within}
 use Rattle.retain.proofs.Stores.{sets-past}
 
 -- ---- parts of an output
@@ -55,19 +55,11 @@ common p q a b h e =
 
 -- ---- values and times
 
--- a list ends within
-pub over-within : (items ends : List ℕ) (n i : ℕ) → Over items ends n → i < length items → getD ends i 0 ≤ n
-over-within items ends n i o h =
-    let r = o .rows in
-    let e : startOf ends (length ends) ≡ getD ends (length ends - 1) 0 = (let z : length ends ≡ suc (length ends - 1) = omega arith in ap (startOf ends) z) in
-    let u = ends-up ends i (length ends - 1) (o .rises .rise) (omega arith) (omega arith) in
-    let l = o .rises .last in omega arith
-
 module _ (m : ℕ → Bool) (vals timeEnds times diffEnds diffs : List ℕ) (o : Over vals timeEnds (length times)) (v t : ℕ) where
   -- the times of the next value
   pub next-times : (out : List ℕ) (start total at i : ℕ) → Woven m vals timeEnds times diffEnds diffs v t out start total at i → i < length vals
       → (start < getD timeEnds i 0) × (getD timeEnds i 0 ≤ length times)
-  next-times out start total at i w h = (next-above m vals timeEnds (o .rows) start i h (w .values .rise) .0, over-within vals timeEnds (length times) i o h)
+  next-times out start total at i w h = (next-above m vals timeEnds (o .rows) start i h (w .values .rise) .0, end-within timeEnds (length times) i (startOf timeEnds i) (o .rises) (let r = o .rows in omega arith) refl .1)
 
   -- so many times are written of the next value as stay
   times-more : (out new : List ℕ) (start total at i done : ℕ) → Woven m vals timeEnds times diffEnds diffs v t out start total at i → i < length vals
@@ -170,7 +162,7 @@ module _ (m : ℕ → Bool) (keys valEnds vals timeEnds times diffEnds diffs : L
   next-values out start time written total at i w h =
       let g = layers-within out start time written total at i w h in
       let a = next-above valueStays keys valEnds (b .overVals .rows) start i g (w .top .rise) .0 in
-      (omega arith, over-within keys valEnds (length vals) i (b .overVals) g)
+      (omega arith, end-within valEnds (length vals) i (startOf valEnds i) (b .overVals .rises) (let r = b .overVals .rows in omega arith) refl .1)
 
   -- a key is written once its values are, and counts where one of them stays
   pub layers-next : (out new got : List ℕ) (start time written total at i time' written' done p : ℕ) → Layering out start time written total at i → at < k

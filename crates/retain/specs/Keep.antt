@@ -1,22 +1,19 @@
--- Which records stay (document 01): of a filter all that have a diff; of a split the first n, or the rest; of an extract the open ones
--- ("a time is open if some corner of the frontier is at or below it in ignition AND in tick"), or the others.
+-- Which records stay (document 01): of a filter all that have a diff; of an extract the open ones ("a time is open if some corner of the
+-- frontier is at or below it in ignition AND in tick"), or the others.
 use Prim.Native.Nat.{ℕ}
 use mathlib.Core.Bool.{Bool, true, false, not, _&&_}
 use mathlib.Core.List.{List}
-use lib.Dec.{leb, ltb}
 use lib.ListN.{getD}
 use Rattle.chunk.specs.Entry.{Entry}
-use Rattle.chunk.specs.Words.{entries, timeBody, diffEndBody}
+use Rattle.chunk.specs.Words.{entries, valEndBody, timeEndBody, timeBody, diffEndBody}
 use Rattle.retain.specs.declared.Keep.{Keep}
-use Rattle.retain.specs.declared.Keep.the-variants.{All, Below, From, Open, Shut}
+use Rattle.retain.specs.declared.Keep.the-variants.{All, Open, Shut}
 use Rattle.retain.specs.Frontier.{isOpen}
-use Rattle.retain.specs.Layers.{hasDiff, listKept, pick}
+use Rattle.retain.specs.Layers.{hasDiff, listKept, ListsLeft, pick}
 
 -- whether time i stays, if it has a diff
 abbrev pub keepsAt : Keep → List ℕ → List ℕ → ℕ → Bool
 keepsAt All times corners i = true
-keepsAt (Below n) times corners i = ltb i n
-keepsAt (From n) times corners i = leb n i
 keepsAt Open times corners i = isOpen corners (getD times i 0)
 keepsAt Shut times corners i = not (isOpen corners (getD times i 0))
 
@@ -28,3 +25,7 @@ timeKept keep times corners diffEnds i = hasDiff diffEnds i && keepsAt keep time
 unfoldable pub retainedOf : Keep → List ℕ → List ℕ → List Entry
 unfolding entries pick
 retainedOf keep corners w = pick (timeKept keep (timeBody w) corners (diffEndBody w)) 0 (entries w)
+
+-- how many keys and values of a chunk have an entry that stays
+abbrev pub ListsOf : Keep → List ℕ → List ℕ → ℕ → ℕ → Type 0
+ListsOf keep corners w k v = ListsLeft (listKept (timeKept keep (timeBody w) corners (diffEndBody w)) (timeEndBody w)) (valEndBody w) k v

@@ -8,8 +8,6 @@ use lib.ListN.{length, getD, take, drop}
 use Rattle.chunk.specs.declared.Range.{Range}
 use Rattle.chunk.specs.Words.{risesFrom, limit, tableSize}
 use Rattle.chunk.specs.Contents.{startOf, tableOf}
-use Rattle.retain.specs.declared.Keep.{Keep}
-use Rattle.retain.specs.declared.Keep.the-variants.{All, Below, From, Open, Shut}
 use Rattle.retain.specs.Layers.{countUp}
 
 -- the items of a range
@@ -71,15 +69,3 @@ rangesOut keys valEnds vals timeEnds times diffs ks vs ts =
     tableOf (ks .upper - ks .lower) (vs .upper - vs .lower) n n
     ++ (rangeOut keys valEnds vs ks ++ (rangeOut vals timeEnds ts vs
     ++ (part (ts .lower) (ts .upper) times ++ (countUp 0 n ++ part (ts .lower) (ts .upper) diffs))))
-
--- a range
-abbrev pub fromTo : ℕ → ℕ → Range
-fromTo a b = record { lower = a; upper = b }
-
--- which range of so many records stays, where it is known that so many do: the first, the last, or none that is known
-abbrev pub rangeOf : Keep → ℕ → ℕ → Range
-rangeOf All n all = fromTo 0 0
-rangeOf (Below k) n all = fromTo 0 n
-rangeOf (From k) n all = fromTo (all - n) all
-rangeOf Open n all = fromTo 0 0
-rangeOf Shut n all = fromTo 0 0

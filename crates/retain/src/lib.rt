@@ -1,28 +1,31 @@
 ghost use mathlib.Core.Path.{_≡_};
 ghost use mathlib.Core.Bool.{true, false};
-ghost use Prim.Native.Nat.{ℕ, _+_, _*_, _≤_};
+ghost use Prim.Native.Nat.{ℕ, _+_, _-_, _*_, _≤_};
 ghost use lib.ListN.{length};
 ghost use Rattle.retain.specs.Frontier.{isOpen, ordered, leastOf, sound};
 ghost use Rattle.retain.specs.Found.{emptyFrontier, keptBy};
 ghost use Rattle.chunk.specs.Entry.{keep};
 ghost use Rattle.retain.specs.Answer.{verdictBy, refusedBy, Parted, Extraction};
-ghost use Rattle.retain.specs.Keep.{timeKept, retainedOf};
+ghost use mathlib.Core.List.{[]};
+ghost use Rattle.retain.specs.declared.Keep.the-variants.{All, Open, Shut};
+ghost use Rattle.retain.specs.Keep.{timeKept, retainedOf, ListsOf};
 ghost use Rattle.retain.specs.Layers.{Bodies, Left, layersOut};
 ghost use Rattle.chunk.specs.Words.{wellFormed, settled, size, tableSize, over, entries};
 ghost use Rattle.chunk.specs.Contents.{Placed};
 ghost use Rattle.chunk.specs.Bodies.{chunkOf};
 ghost use Rattle.retain.specs.Cut.{filterNumber, filterOut, Split};
 use chunk::Contents;
+use chunk::Range;
 use climb::add_corner;
 use layers::write_layers;
 use look::count_open;
 use look::in_order;
 use look::is_open;
 use one_by_one::scan_corners;
-use ranges::range_of;
-use ranges::retain_range;
+use ranges::retain_cut;
 use runs::copy;
-use stay::count_lists;
+use sides::both_of;
+use stay::lists_of;
 
 mod climb;
 mod layers;
@@ -33,11 +36,9 @@ mod runs;
 mod sides;
 mod stay;
 
-// Which times that have a diff stay: every one, those with an index below a number or from it on, those open under the corners, the others.
+// Which times that have a diff stay: every one, those open under the corners, the others.
 pub enum Keep {
     All,
-    Below(usize),
-    From(usize),
     Open,
     Shut,
 }
@@ -106,18 +107,20 @@ fn write_bodies(
     );
 }
 
-// Writes the chunk of the entries that stay, so many of them, layer by layer: the items that pass, and above them the lists that are not left empty.
-fn retain_some(
+// Writes the chunk of the entries that stay, so many of them, under so many keys and values.
+fn retain_items(
     words: &[u64],
     found: Contents,
     keep: Keep,
     corners: &[u64],
+    nk: usize,
+    nv: usize,
     nt: usize,
     out: &mut [u64],
 )
     requires { ⌜ (wellFormed (now words) ≡ true) × Placed found (now words) ⌝ }
     requires { ⌜ (ordered (now corners) ≡ true) × (size (now words) ≤ length (now out)) ⌝ }
-    requires { ⌜ nt ≡ length (retainedOf keep (now corners) (now words)) ⌝ }
+    requires { ⌜ (nt ≡ length (retainedOf keep (now corners) (now words))) × ListsOf keep (now corners) (now words) nk nv ⌝ }
     ensures { λ _. ⌜ now (out .exit) ≡ over (chunkOf (retainedOf keep (now (corners .entry)) (now (words .entry)))) (now (out .entry)) ⌝ }
 {
     let keys_at = found.keys_at;
@@ -128,26 +131,16 @@ fn retain_some(
     let diff_ends_at = found.diff_ends_at;
     let diffs_at = found.diffs_at;
     let size = found.size;
-    let keys = &words[keys_at..val_ends_at];
-    let val_ends = &words[val_ends_at..vals_at];
-    let vals = &words[vals_at..time_ends_at];
-    let time_ends = &words[time_ends_at..times_at];
-    let times = &words[times_at..diff_ends_at];
-    let diff_ends = &words[diff_ends_at..diffs_at];
-    let diffs = &words[diffs_at..size];
-    let left = count_lists(keep, times, corners, diff_ends, time_ends, val_ends);
-    let nk = left.keys;
-    let nv = left.vals;
     write_bodies(
         keep,
         corners,
-        keys,
-        val_ends,
-        vals,
-        time_ends,
-        times,
-        diff_ends,
-        diffs,
+        &words[keys_at..val_ends_at],
+        &words[val_ends_at..vals_at],
+        &words[vals_at..time_ends_at],
+        &words[time_ends_at..times_at],
+        &words[times_at..diff_ends_at],
+        &words[diff_ends_at..diffs_at],
+        &words[diffs_at..size],
         nk,
         nv,
         nt,
@@ -155,42 +148,26 @@ fn retain_some(
     );
 }
 
-// The same, or less: the whole chunk as it is where all stay, the empty one where none does, and of a settled chunk that is cut at an index a range of
-// each layer.
-fn retain_items(
-    words: &[u64],
-    found: Contents,
-    keep: Keep,
-    corners: &[u64],
-    nt: usize,
-    out: &mut [u64],
-)
-    requires { ⌜ (wellFormed (now words) ≡ true) × Placed found (now words) ⌝ }
-    requires { ⌜ (ordered (now corners) ≡ true) × (size (now words) ≤ length (now out)) ⌝ }
-    requires { ⌜ nt ≡ length (retainedOf keep (now corners) (now words)) ⌝ }
-    ensures { λ _. ⌜ now (out .exit) ≡ over (chunkOf (retainedOf keep (now (corners .entry)) (now (words .entry)))) (now (out .entry)) ⌝ }
+// Writes the chunk of the entries that have a diff: the whole as it is where all do, the empty one where none does.
+fn retain_standing(words: &[u64], found: Contents, out: &mut [u64])
+    requires { ⌜ (wellFormed (now words) ≡ true) × (Placed found (now words) × (size (now words) ≤ length (now out))) ⌝ }
+    ensures { λ _. ⌜ now (out .exit) ≡ over (chunkOf (retainedOf All [] (now (words .entry)))) (now (out .entry)) ⌝ }
 {
-    let all = found.nt;
     let size = found.size;
-    if nt == all {
+    let all = found.nt;
+    let nd = found.nd;
+    if nd == all {
         copy(&words[..size], out, 0);
         return;
     }
-    if nt == 0 {
+    if nd == 0 {
         chunk::write_table(out, 0, 0, 0, 0);
         return;
     }
-    let diffs = found.nd;
-    if diffs == all {
-        let range = range_of(keep, nt, all);
-        let lower = range.lower;
-        let upper = range.upper;
-        if lower < upper {
-            retain_range(words, found, range, out);
-            return;
-        }
-    }
-    retain_some(words, found, keep, corners, nt, out);
+    let left = lists_of(words, found);
+    let nk = left.keys;
+    let nv = left.vals;
+    retain_items(words, found, Keep::All, &words[0..0], nk, nv, nd, out);
 }
 
 // Filter: times without a diff go, then values and keys left without children. 5 where the chunk isn't well formed, 13 where `out` is short.
@@ -207,8 +184,7 @@ pub fn filter_zero(words: &[u64], out: &mut [u64]) -> u64
     if out.len() < size {
         return 13;
     }
-    let nd = found.nd;
-    retain_items(words, found, Keep::All, &words[0..0], nd, out);
+    retain_standing(words, found, out);
     0
 }
 
@@ -239,9 +215,24 @@ pub fn split_at(words: &[u64], n: u64, first: &mut [u64], rest: &mut [u64]) -> u
     if all < at {
         cut = all;
     }
-    let none = &words[0..0];
-    retain_items(words, found, Keep::Below(at), none, cut, first);
-    retain_items(words, found, Keep::From(at), none, all - cut, rest);
+    retain_cut(
+        words,
+        found,
+        Range {
+            lower: 0,
+            upper: cut,
+        },
+        first,
+    );
+    retain_cut(
+        words,
+        found,
+        Range {
+            lower: cut,
+            upper: all,
+        },
+        rest,
+    );
     0
 }
 
@@ -393,6 +384,59 @@ fn refused(number: u64) -> Extracted
     }
 }
 
+// Writes the chunks of the open entries, so many of them, and of the others: the whole as it is where all are on one side.
+fn retain_both(
+    words: &[u64],
+    found: Contents,
+    corners: &[u64],
+    open: usize,
+    kept: &mut [u64],
+    shipped: &mut [u64],
+)
+    requires { ⌜ (wellFormed (now words) ≡ true) × (Placed found (now words) × (settled (now words) ≡ true)) ⌝ }
+    requires { ⌜ (ordered (now corners) ≡ true) × ((size (now words) ≤ length (now kept)) × (size (now words) ≤ length (now shipped))) ⌝ }
+    requires { ⌜ («open» ≡ length (retainedOf Open (now corners) (now words))) × ((«open» ≤ found .nt) × (found .nt - «open» ≡ length (retainedOf Shut (now corners) (now words)))) ⌝ }
+    ensures { λ _. ⌜ (now (kept .exit) ≡ over (chunkOf (retainedOf Open (now (corners .entry)) (now (words .entry)))) (now (kept .entry))) × (now (shipped .exit) ≡ over (chunkOf (retainedOf Shut (now (corners .entry)) (now (words .entry)))) (now (shipped .entry))) ⌝ }
+{
+    let size = found.size;
+    let all = found.nt;
+    if open == all {
+        copy(&words[..size], kept, 0);
+        chunk::write_table(shipped, 0, 0, 0, 0);
+        return;
+    }
+    if open == 0 {
+        chunk::write_table(kept, 0, 0, 0, 0);
+        copy(&words[..size], shipped, 0);
+        return;
+    }
+    let left = both_of(words, found, corners);
+    let open_keys = left.open_keys;
+    let open_vals = left.open_vals;
+    let shut_keys = left.shut_keys;
+    let shut_vals = left.shut_vals;
+    retain_items(
+        words,
+        found,
+        Keep::Open,
+        corners,
+        open_keys,
+        open_vals,
+        open,
+        kept,
+    );
+    retain_items(
+        words,
+        found,
+        Keep::Shut,
+        corners,
+        shut_keys,
+        shut_vals,
+        all - open,
+        shipped,
+    );
+}
+
 // Extract from a settled chunk that the outputs hold: 10 where the kept times have too many corners.
 fn extract_open(
     words: &[u64],
@@ -417,8 +461,7 @@ fn extract_open(
     let open = least.number;
     let all = found.nt;
     let verdict = verdict_of(open, all);
-    retain_items(words, found, Keep::Open, corners, open, kept);
-    retain_items(words, found, Keep::Shut, corners, all - open, shipped);
+    retain_both(words, found, corners, open, kept, shipped);
     Extracted {
         number: 0,
         verdict,

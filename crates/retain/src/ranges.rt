@@ -8,8 +8,7 @@ ghost use lib.Seq.{sets};
 ghost use Rattle.chunk.specs.Words.{risesFrom, wellFormed, settled, size, over, entries, nt};
 ghost use Rattle.chunk.specs.Contents.{startOf, Placed};
 ghost use Rattle.chunk.specs.Bodies.{chunkOf};
-ghost use Rattle.retain.specs.Ranges.{part, EndsParted, Span, rangeOut, Layered, Ranged, rangesOut, rangeOf};
-use crate::Keep;
+ghost use Rattle.retain.specs.Ranges.{part, EndsParted, Span, rangeOut, Layered, Ranged, rangesOut};
 use crate::runs::copy;
 use crate::runs::write_run;
 use chunk::Contents;
@@ -125,7 +124,7 @@ fn write_ranges(
 }
 
 // Writes the chunk of a range of a settled chunk's entries.
-pub(crate) fn retain_range(words: &[u64], found: Contents, range: Range, out: &mut [u64])
+fn retain_range(words: &[u64], found: Contents, range: Range, out: &mut [u64])
     requires { ⌜ (wellFormed (now words) ≡ true) × (Placed found (now words) × (settled (now words) ≡ true)) ⌝ }
     requires { ⌜ (range .lower < range .upper) × ((range .upper ≤ nt (now words)) × (size (now words) ≤ length (now out))) ⌝ }
     ensures { λ _. ⌜ now (out .exit) ≡ over (chunkOf (part (range .lower) (range .upper) (entries (now (words .entry))))) (now (out .entry)) ⌝ }
@@ -160,22 +159,23 @@ pub(crate) fn retain_range(words: &[u64], found: Contents, range: Range, out: &m
     );
 }
 
-// Which range of so many records stays where so many do: of a cut below or from an index; else an empty one.
-pub(crate) fn range_of(keep: Keep, nt: usize, all: usize) -> Range
-    requires { ⌜ nt ≤ all ⌝ }
-    ensures { λ r. ⌜ r ≡ rangeOf keep nt all ⌝ }
+// The same, or less: the whole chunk as it is where the range is all of it, the empty one where the range is.
+pub(crate) fn retain_cut(words: &[u64], found: Contents, range: Range, out: &mut [u64])
+    requires { ⌜ (wellFormed (now words) ≡ true) × (Placed found (now words) × (settled (now words) ≡ true)) ⌝ }
+    requires { ⌜ (range .lower ≤ range .upper) × ((range .upper ≤ nt (now words)) × (size (now words) ≤ length (now out))) ⌝ }
+    ensures { λ _. ⌜ now (out .exit) ≡ over (chunkOf (part (range .lower) (range .upper) (entries (now (words .entry))))) (now (out .entry)) ⌝ }
 {
-    match keep {
-        Keep::All => Range { lower: 0, upper: 0 },
-        Keep::Below(_) => Range {
-            lower: 0,
-            upper: nt,
-        },
-        Keep::From(_) => Range {
-            lower: all - nt,
-            upper: all,
-        },
-        Keep::Open => Range { lower: 0, upper: 0 },
-        Keep::Shut => Range { lower: 0, upper: 0 },
+    let lower = range.lower;
+    let upper = range.upper;
+    let size = found.size;
+    let all = found.nt;
+    if lower == upper {
+        chunk::write_table(out, 0, 0, 0, 0);
+        return;
     }
+    if upper - lower == all {
+        copy(&words[..size], out, 0);
+        return;
+    }
+    retain_range(words, found, range, out);
 }

@@ -3,12 +3,16 @@ ghost use mathlib.Core.Path.{_≡_};
 ghost use Prim.Native.Nat.{ℕ, _-_, _≤_};
 ghost use lib.ListN.{length};
 ghost use Rattle.retain.specs.declared.Keep.the-variants.{Open, Shut};
-ghost use Rattle.retain.specs.Keep.{timeKept};
+ghost use mathlib.Core.Bool.{true};
+ghost use Rattle.chunk.specs.Words.{wellFormed, settled};
+ghost use Rattle.retain.specs.Frontier.{ordered};
+ghost use Rattle.retain.specs.Keep.{timeKept, ListsOf};
 ghost use Rattle.retain.specs.Layers.{countKept, listKept, AllDiffs, ListsLeft, Ready, RisesTo};
-ghost use Rattle.chunk.specs.Contents.{startOf};
+ghost use Rattle.chunk.specs.Contents.{startOf, Placed};
 use crate::Both;
 use crate::look::count_open;
 use crate::stay::bit_of;
+use chunk::Contents;
 
 // How many values have an open time, and how many one that isn't.
 struct Values {
@@ -47,7 +51,7 @@ fn both_values(
 }
 
 // How many keys and values are left with an open time, and how many with one that isn't.
-pub(crate) fn count_both(
+fn count_both(
     times: &[u64],
     corners: &[u64],
     diff_ends: &[u64],
@@ -85,4 +89,26 @@ pub(crate) fn count_both(
         shut_keys,
         shut_vals,
     }
+}
+
+// The same of a settled chunk.
+pub(crate) fn both_of(words: &[u64], found: Contents, corners: &[u64]) -> Both
+    requires { ⌜ (wellFormed (now words) ≡ true) × (Placed found (now words) × (settled (now words) ≡ true)) ⌝ }
+    requires { ⌜ ordered (now corners) ≡ true ⌝ }
+    ensures { λ r. ⌜ ListsOf Open (now (corners .entry)) (now (words .entry)) (r .«open_keys») (r .«open_vals») ⌝ }
+    ensures { λ r. ⌜ ListsOf Shut (now (corners .entry)) (now (words .entry)) (r .«shut_keys») (r .«shut_vals») ⌝ }
+{
+    let val_ends_at = found.val_ends_at;
+    let vals_at = found.vals_at;
+    let time_ends_at = found.time_ends_at;
+    let times_at = found.times_at;
+    let diff_ends_at = found.diff_ends_at;
+    let diffs_at = found.diffs_at;
+    count_both(
+        &words[times_at..diff_ends_at],
+        corners,
+        &words[diff_ends_at..diffs_at],
+        &words[time_ends_at..times_at],
+        &words[val_ends_at..vals_at],
+    )
 }

@@ -1,16 +1,19 @@
-// Which times stay, and how many: time by time, value by value, key by key.
+// Which times stay, and how many values and keys have one with a diff.
 ghost use mathlib.Core.Path.{_≡_};
-ghost use mathlib.Core.Bool.{true, false};
-ghost use Prim.Native.Nat.{ℕ, _+_, _-_, _≤_, _<_};
+ghost use mathlib.Core.Bool.{true};
+ghost use mathlib.Core.List.{[]};
+ghost use Prim.Native.Nat.{ℕ, _-_, _≤_, _<_};
 ghost use lib.ListN.{length};
+ghost use Rattle.retain.specs.declared.Keep.the-variants.{All};
 ghost use Rattle.retain.specs.Frontier.{ordered};
-ghost use Rattle.retain.specs.Keep.{keepsAt, timeKept};
-ghost use Rattle.retain.specs.Layers.{bit, countKept, listKept, hasDiff, EndsStep, ListsLeft, Ready};
-ghost use Rattle.chunk.specs.Words.{risesFrom};
+ghost use Rattle.retain.specs.Keep.{keepsAt, ListsOf};
+ghost use Rattle.retain.specs.Layers.{bit, countKept, listKept, hasDiff, EndsStep, ListsLeft, RisesTo};
+ghost use Rattle.chunk.specs.Words.{wellFormed};
+ghost use Rattle.chunk.specs.Contents.{startOf, Placed};
 use crate::Keep;
 use crate::Lists;
-use crate::look::count_open;
 use crate::look::open_bit;
+use chunk::Contents;
 
 // 1 where a test holds, else 0.
 pub(crate) fn bit_of(b: bool) -> usize
@@ -29,166 +32,73 @@ pub(crate) fn keeps(keep: Keep, times: &[u64], corners: &[u64], i: usize) -> usi
 {
     match keep {
         Keep::All => 1,
-        Keep::Below(n) => bit_of(i < n),
-        Keep::From(n) => bit_of(n <= i),
         Keep::Open => open_bit(corners, times[i]) as usize,
         Keep::Shut => 1 - open_bit(corners, times[i]) as usize,
     }
 }
 
-// 1 where a time has a diff and stays, else 0.
-fn kept_bit(keep: Keep, times: &[u64], corners: &[u64], diff_ends: &[u64], i: usize) -> usize
-    requires { ⌜ Ready (now times) (now corners) (now «diff_ends») × (i < length (now «diff_ends»)) ⌝ }
-    ensures { λ r. ⌜ r ≡ bit (timeKept keep (now (times .entry)) (now (corners .entry)) (now («diff_ends» .entry)) i) ⌝ }
-{
-    let list = chunk::child_range(diff_ends, i);
-    let lower = list.lower;
-    let upper = list.upper;
-    (upper - lower) * keeps(keep, times, corners, i)
-}
-
-// How many of the times from one index to another have a diff: so many more diffs end there.
-fn count_diffs(diff_ends: &[u64], from: usize, to: usize) -> usize
-    requires { ⌜ EndsStep (now «diff_ends») × ((from ≤ to) × (to ≤ length (now «diff_ends»))) ⌝ }
-    ensures { λ r. ⌜ r ≡ countKept (hasDiff (now («diff_ends» .entry))) from (to - from) ⌝ }
-{
-    if to == 0 {
-        return 0;
-    }
-    let upper = diff_ends[to - 1] as usize;
-    if from == 0 {
-        return upper;
-    }
-    let lower = diff_ends[from - 1] as usize;
-    upper - lower
-}
-
-// How many of the times from one index to another stay, one by one.
-fn count_each(
-    keep: Keep,
-    times: &[u64],
-    corners: &[u64],
-    diff_ends: &[u64],
-    from: usize,
-    to: usize,
-) -> usize
-    requires { ⌜ Ready (now times) (now corners) (now «diff_ends») × (to ≤ length (now «diff_ends»)) ⌝ }
-    ensures { λ r. ⌜ r ≡ countKept (timeKept keep (now (times .entry)) (now (corners .entry)) (now («diff_ends» .entry))) from (to - from) ⌝ }
-{
-    let mut count = 0;
-    let mut i = from;
-    while i < to {
-        let stays = kept_bit(keep, times, corners, diff_ends, i);
-        count += stays;
-        i += 1;
-    }
-    count
-}
-
-// How many of the times of a range stay: by the ends alone where all with a diff do, and by the corners alone where each has a diff.
-fn count_range(
-    keep: Keep,
-    times: &[u64],
-    corners: &[u64],
-    diff_ends: &[u64],
-    from: usize,
-    to: usize,
-) -> usize
-    requires { ⌜ Ready (now times) (now corners) (now «diff_ends») × ((from ≤ to) × (to ≤ length (now «diff_ends»))) ⌝ }
-    ensures { λ r. ⌜ r ≡ countKept (timeKept keep (now (times .entry)) (now (corners .entry)) (now («diff_ends» .entry))) from (to - from) ⌝ }
-{
-    let all = count_diffs(diff_ends, from, to);
-    let full = all == to - from;
-    match keep {
-        Keep::All => return all,
-        Keep::Open => {
-            if full {
-                return count_open(&times[from..to], corners);
-            }
-        }
-        Keep::Shut => {
-            if full {
-                return all - count_open(&times[from..to], corners);
-            }
-        }
-        Keep::Below(_) => {}
-        Keep::From(_) => {}
-    }
-    count_each(keep, times, corners, diff_ends, from, to)
-}
-
-// How many of the times from one index to another stay.
-fn count_times(
-    keep: Keep,
-    times: &[u64],
-    corners: &[u64],
-    diff_ends: &[u64],
-    from: usize,
-    to: usize,
-) -> usize
-    requires { ⌜ Ready (now times) (now corners) (now «diff_ends») ⌝ }
-    ensures { λ r. ⌜ r ≡ countKept (timeKept keep (now (times .entry)) (now (corners .entry)) (now («diff_ends» .entry))) from (to - from) ⌝ }
-{
-    let mut top = to;
-    if diff_ends.len() < to {
-        top = diff_ends.len();
-    }
-    if top < from {
-        return 0;
-    }
-    count_range(keep, times, corners, diff_ends, from, top)
-}
-
-// How many of the values from one index to another have a time that stays.
+// How many of the values from one index to another have a time with a diff, which is where more diffs end than before. So many end before the first.
 fn count_values(
-    keep: Keep,
-    times: &[u64],
-    corners: &[u64],
     diff_ends: &[u64],
     time_ends: &[u64],
     from: usize,
     to: usize,
+    before: usize,
 ) -> usize
-    requires { ⌜ Ready (now times) (now corners) (now «diff_ends») ⌝ }
-    ensures { λ r. ⌜ r ≡ countKept (listKept (timeKept keep (now (times .entry)) (now (corners .entry)) (now («diff_ends» .entry))) (now («time_ends» .entry))) from (to - from) ⌝ }
+    requires { ⌜ EndsStep (now «diff_ends») × RisesTo (now «time_ends») (length (now «diff_ends»)) ⌝ }
+    requires { ⌜ (to ≤ length (now «time_ends»)) × (before ≡ startOf (now «diff_ends») (startOf (now «time_ends») from)) ⌝ }
+    ensures { λ r. ⌜ r ≡ countKept (listKept (hasDiff (now («diff_ends» .entry))) (now («time_ends» .entry))) from (to - from) ⌝ }
 {
     let mut count = 0;
+    let mut below = before;
     let mut i = from;
     while i < to {
-        let list = chunk::child_range(time_ends, i);
-        let lower = list.lower;
-        let upper = list.upper;
-        let left = count_times(keep, times, corners, diff_ends, lower, upper);
-        count += bit_of(0 < left);
+        let end = time_ends[i] as usize;
+        let reach = diff_ends[end - 1] as usize;
+        count += bit_of(below < reach);
+        below = reach;
         i += 1;
     }
     count
 }
 
-// How many keys have a value that stays, and how many values do.
-pub(crate) fn count_lists(
-    keep: Keep,
-    times: &[u64],
-    corners: &[u64],
-    diff_ends: &[u64],
-    time_ends: &[u64],
-    val_ends: &[u64],
-) -> Lists
-    requires { ⌜ Ready (now times) (now corners) (now «diff_ends») ⌝ }
-    requires { ⌜ risesFrom 0 (now «val_ends») ≡ true ⌝ }
-    ensures { λ r. ⌜ ListsLeft (listKept (timeKept keep (now (times .entry)) (now (corners .entry)) (now («diff_ends» .entry))) (now («time_ends» .entry))) (now («val_ends» .entry)) (r .keys) (r .vals) ⌝ }
+// How many keys have a value with a diff, and how many values do.
+fn count_lists(diff_ends: &[u64], time_ends: &[u64], val_ends: &[u64]) -> Lists
+    requires { ⌜ EndsStep (now «diff_ends») × (RisesTo (now «time_ends») (length (now «diff_ends»)) × RisesTo (now «val_ends») (length (now «time_ends»))) ⌝ }
+    ensures { λ r. ⌜ ListsLeft (listKept (hasDiff (now («diff_ends» .entry))) (now («time_ends» .entry))) (now («val_ends» .entry)) (r .keys) (r .vals) ⌝ }
 {
     let mut keys = 0;
     let mut vals = 0;
+    let mut lower = 0;
+    let mut below = 0;
     let mut i = 0;
     while i < val_ends.len() {
-        let list = chunk::child_range(val_ends, i);
-        let lower = list.lower;
-        let upper = list.upper;
-        let left = count_values(keep, times, corners, diff_ends, time_ends, lower, upper);
+        let upper = val_ends[i] as usize;
+        let left = count_values(diff_ends, time_ends, lower, upper, below);
         keys += bit_of(0 < left);
         vals += left;
+        let end = time_ends[upper - 1] as usize;
+        below = diff_ends[end - 1] as usize;
+        lower = upper;
         i += 1;
     }
     Lists { keys, vals }
+}
+
+// The same of a chunk.
+pub(crate) fn lists_of(words: &[u64], found: Contents) -> Lists
+    requires { ⌜ (wellFormed (now words) ≡ true) × Placed found (now words) ⌝ }
+    ensures { λ r. ⌜ ListsOf All [] (now (words .entry)) (r .keys) (r .vals) ⌝ }
+{
+    let val_ends_at = found.val_ends_at;
+    let vals_at = found.vals_at;
+    let time_ends_at = found.time_ends_at;
+    let times_at = found.times_at;
+    let diff_ends_at = found.diff_ends_at;
+    let diffs_at = found.diffs_at;
+    count_lists(
+        &words[diff_ends_at..diffs_at],
+        &words[time_ends_at..times_at],
+        &words[val_ends_at..vals_at],
+    )
 }

@@ -91,14 +91,12 @@ returns c =
 verdict-of-requires : tie.Need-verdict-of-requires
 verdict-of-requires c κs = search needs
 
-retain-items-requires : tie.Need-retain-items-requires
-retain-items-requires c κs = let a = c .before .before .before .before .before .before .before .before .before .before in ((a .pre .0 .0, a .pre .0 .1 .0), ((a .pre .1 .0, a .pre .1 .1 .0), stays (a .args .found) (a .args .words .now) (a .pre .0 .1 .0) (a .pre .0 .0) (a .pre .0 .1 .1) (a .args .corners .now) _ (c .before .before .before .before .kept-corners .ensures)))
-
-sub-retain-items : tie.Need-sub-retain-items
-sub-retain-items c = let a = c .before .before .before .before .before .before .before .before .before .before .before .before .before in others (a .args .found) (a .args .words .now) (a .pre .0 .1 .0) (a .pre .0 .0) (a .pre .0 .1 .1) (a .args .corners .now) _ (c .before .before .before .before .before .before .before .kept-corners .ensures) .0
-
-retain-items-requires-2 : tie.Need-retain-items-requires-2
-retain-items-requires-2 c κs = let a = c .before .before .before .before .before .before .before .before .before .before .before .before .before .before in ((a .pre .0 .0, a .pre .0 .1 .0), ((a .pre .1 .0, a .pre .1 .1 .1), others (a .args .found) (a .args .words .now) (a .pre .0 .1 .0) (a .pre .0 .0) (a .pre .0 .1 .1) (a .args .corners .now) _ (c .before .before .before .before .before .before .before .before .kept-corners .ensures) .1))
+retain-both-requires : tie.Need-retain-both-requires
+retain-both-requires c κs =
+    let a = c .before .before .before .before .before .before .before .before .before .before .before in
+    let k = c .before .before .before .before .before .kept-corners .ensures in
+    let o = others (a .args .found) (a .args .words .now) (a .pre .0 .1 .0) (a .pre .0 .0) (a .pre .0 .1 .1) (a .args .corners .now) _ k in
+    (a .pre .0, (a .pre .1, (stays (a .args .found) (a .args .words .now) (a .pre .0 .1 .0) (a .pre .0 .0) (a .pre .0 .1 .1) (a .args .corners .now) _ k, o)))
 
 same-length : tie.Need-same-length
 same-length c = search needs
@@ -108,14 +106,14 @@ same-length-2 c = search needs
 
 returns-2 : tie.Need-returns-2
 returns-2 c =
-    let a = c .before .before .before .before .before .before .before .before .before .before .before .before .before .before .before .before .before in
+    let a = c .before .before .before .before .before .before .before .before .before .before .before .before .before .before .before .before in
     let v = stand (a .args .found) (a .args .words .now) (a .pre .0 .1 .0) (a .pre .0 .0) (a .pre .0 .1 .1) (a .args .corners .now) in
-    let k = c .before .before .before .before .before .before .before .before .before .before .before .kept-corners .ensures in
+    let k = c .before .before .before .before .before .before .before .before .before .before .kept-corners .ensures in
     taken (a .args .corners .now) (entries (a .args .words .now)) _ _ _ _ (a .args .kept .now) (a .args .shipped .now) _ _
-    (found-corners (a .args .found) (a .args .words .now) (a .pre .0 .1 .0) (a .pre .0 .0) (a .pre .0 .1 .1) (a .args .corners .now) _ k) (not-false _ (c .before .before .before .before .before .before .before .before .before .before .if1 .left))
-    (opened (a .args .found) (a .args .words .now) (a .pre .0 .1 .0) (a .pre .0 .0) (a .pre .0 .1 .1) (a .args .corners .now) _ k) (number (a .args .found) (a .args .words .now) (a .pre .0 .1 .0) (a .pre .0 .0) (a .pre .0 .1 .1) (a .args .corners .now)) (c .before .before .before .before .before .before .before .before .verdict-of .ensures)
-    (c .before .before .before .before .before .before .retain-items .ensures ∙ ap (λ (es : List Entry). over (chunkOf es) (a .args .kept .now)) (retained-open (a .args .words .now) (a .pre .0 .0) (a .args .corners .now) v))
-    (c .before .before .retain-items2 .ensures ∙ ap (λ (es : List Entry). over (chunkOf es) (a .args .shipped .now)) (retained-shut (a .args .words .now) (a .pre .0 .0) (a .args .corners .now) v))
+    (found-corners (a .args .found) (a .args .words .now) (a .pre .0 .1 .0) (a .pre .0 .0) (a .pre .0 .1 .1) (a .args .corners .now) _ k) (not-false _ (c .before .before .before .before .before .before .before .before .before .if1 .left))
+    (opened (a .args .found) (a .args .words .now) (a .pre .0 .1 .0) (a .pre .0 .0) (a .pre .0 .1 .1) (a .args .corners .now) _ k) (number (a .args .found) (a .args .words .now) (a .pre .0 .1 .0) (a .pre .0 .0) (a .pre .0 .1 .1) (a .args .corners .now)) (c .before .before .before .before .before .before .before .verdict-of .ensures)
+    (c .before .before .before .before .retain-both .ensures .0 ∙ ap (λ (es : List Entry). over (chunkOf es) (a .args .kept .now)) (retained-open (a .args .words .now) (a .pre .0 .0) (a .args .corners .now) v))
+    (c .before .before .before .before .retain-both .ensures .1 ∙ ap (λ (es : List Entry). over (chunkOf es) (a .args .shipped .now)) (retained-shut (a .args .words .now) (a .pre .0 .0) (a .args .corners .now) v))
 
 pub extract-open-spec : {M : Type 1} → statement M
 extract-open-spec =
@@ -129,9 +127,7 @@ extract-open-spec =
     refused-requires
     returns
     verdict-of-requires
-    retain-items-requires
-    sub-retain-items
-    retain-items-requires-2
+    retain-both-requires
     same-length
     same-length-2
     returns-2)

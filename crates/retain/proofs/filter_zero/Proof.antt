@@ -38,9 +38,6 @@ accepted : (w out after : List ℕ) → wellFormed w ≡ true → size w ≤ len
 unfolding Answer filterNumber filterOut first written
 accepted w out after h k e = let q = le-ltb (length out) (size w) k in (simp (h, q), e ∙ simp (h, q))
 
-counted : (w : List ℕ) (n : ℕ) → wellFormed w ≡ true → n ≡ nd w → (corners : List ℕ) → n ≡ length (retainedOf All corners w)
-counted w n f e corners = e ∙ sym (stand-count w f (λ i. true)) ∙ ap length (sym (retained-all w f corners))
-
 check-requires : tie.Need-check-requires
 check-requires c κs = search needs
 
@@ -55,21 +52,11 @@ returns-2 c =
     let p = passed _ (a .words .now) (c .before .before .before .check .ensures) (c .before .before .if1 .left) in
     short (a .words .now) (a .out .now) (p .formed) (omega (arith, p .spread .sized))
 
-sub-retain-items : tie.Need-sub-retain-items
-sub-retain-items c = search needs
-
-part-retain-items-start : tie.Need-part-retain-items-start
-part-retain-items-start c = search needs
-
-part-retain-items-end : tie.Need-part-retain-items-end
-part-retain-items-end c = search needs
-
-retain-items-requires : tie.Need-retain-items-requires
-unfolding ordered
-retain-items-requires c κs =
-    let a = c .before .before .before .before .before .before .before .before .args in
-    let p = passed _ (a .words .now) (c .before .before .before .before .before .check .ensures) (c .before .before .before .before .if1 .left) in
-    ((p .formed, p .spread), ((refl, omega (arith, p .spread .sized)), counted (a .words .now) _ (p .formed) (p .spread .diffCount) []))
+retain-standing-requires : tie.Need-retain-standing-requires
+retain-standing-requires c κs =
+    let a = c .before .before .before .before .before .before .before .args in
+    let p = passed _ (a .words .now) (c .before .before .before .before .check .ensures) (c .before .before .before .if1 .left) in
+    (p .formed, (p .spread, omega (arith, p .spread .sized)))
 
 same-length : tie.Need-same-length
 same-length c = search needs
@@ -77,10 +64,10 @@ same-length c = search needs
 returns-3 : tie.Need-returns-3
 unfolding Answer
 returns-3 c =
-    let a = c .before .before .before .before .before .before .before .before .before .before .before .args in
-    let p = passed _ (a .words .now) (c .before .before .before .before .before .before .before .before .check .ensures) (c .before .before .before .before .before .before .before .if1 .left) in
+    let a = c .before .before .before .before .before .before .before .before .before .before .args in
+    let p = passed _ (a .words .now) (c .before .before .before .before .before .before .before .check .ensures) (c .before .before .before .before .before .before .if1 .left) in
     accepted (a .words .now) (a .out .now) _ (p .formed) (omega (arith, p .spread .sized))
-    (c .before .before .retain-items .ensures ∙ ap (λ (es : List Entry). over (chunkOf es) (a .out .now)) (retained-all (a .words .now) (p .formed) _))
+    (c .before .before .retain-standing .ensures ∙ ap (λ (es : List Entry). over (chunkOf es) (a .out .now)) (retained-all (a .words .now) (p .formed) []))
 
 pub filter-zero-spec : {M : Type 1} → statement M
 filter-zero-spec =
@@ -89,9 +76,6 @@ filter-zero-spec =
     check-requires
     returns
     returns-2
-    sub-retain-items
-    part-retain-items-start
-    part-retain-items-end
-    retain-items-requires
+    retain-standing-requires
     same-length
     returns-3)

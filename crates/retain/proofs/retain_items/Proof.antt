@@ -1,104 +1,172 @@
--- `retain::retain_items` meets its contract: by how many stay, and whether they are a range of a settled chunk.
+-- `retain::retain_items` meets its contract: the parts cut out are the bodies, and what is written of them is the chunk of what stays.
 use Prim.Native.Nat.{ℕ}
-use mathlib.Core.Path.{_≡_, sym, _∙_, ap}
-use mathlib.Core.Bool.{true}
+use mathlib.Core.Path.{_∙_, ap}
 use mathlib.Core.List.{List}
-use native.Mathlib.Omega.{arith}
-use lib.Seq.{length-take-le}
-use borrow.Author.Tests.{eq-eqb}
-use Rattle.chunk.specs.Entry.{Entry}
-use Rattle.chunk.specs.Bodies.{chunkOf}
-use Rattle.chunk.specs.Words.{settled, nt, nd, over}
-use Rattle.retain.proofs.Whole.{whole-chunk, no-chunk}
-use Rattle.retain.proofs.Sliced.{few-stay, ranged-as}
+use Rattle.chunk.specs.Words.{over}
+use Rattle.retain.proofs.Retained.{cut-bodies, cut-left, cut-words}
 use borrow.Author.Needs.{needs}
 use Rattle.retain.proofs.retain_items.Statement.{statement}
 use Rattle.retain.proofs.retain_items.Tie as tie
+use Rattle.retain.proofs.retain_items.Reads as reads
+use Rattle.retain.proofs.retain_items.Lts as lts
+use Rattle.retain.proofs.write_bodies.Reads as write-bodies-reads
 
-settled-as : (w : List ℕ) (d t : ℕ) → d ≡ t → d ≡ nd w → t ≡ nt w → settled w ≡ true
-settled-as w d t e p q = eq-eqb (nd w) (nt w) (sym p ∙ e ∙ q)
+-- src/lib.rt:137:9
+mul-write-bodies : tie.Need-mul-write-bodies
+mul-write-bodies c = search needs
 
-slice-aggregate-copy : tie.Need-slice-aggregate-copy
-slice-aggregate-copy c = let a = c .before .before .before .before .before in let p = a .pre .0 .1 in sym (length-take-le (a .args .found .size) (a .args .words .now) (omega (arith, p .sized, p .within)))
+-- src/lib.rt:137:9
+sub-write-bodies : tie.Need-sub-write-bodies
+sub-write-bodies c = search needs
 
-copy-requires : tie.Need-copy-requires
-copy-requires c κs =
-    let a = c .before .before .before .before .before .before in
-    let p = a .pre .0 .1 in
-    let l = length-take-le (a .args .found .size) (a .args .words .now) (omega (arith, p .sized, p .within)) in
-    omega (arith, p .sized, a .pre .1 .0 .1)
+-- src/lib.rt:137:9
+part-write-bodies-start : tie.Need-part-write-bodies-start
+part-write-bodies-start c = search needs
 
+-- src/lib.rt:137:9
+part-write-bodies-end : tie.Need-part-write-bodies-end
+part-write-bodies-end c = search needs
+
+-- src/lib.rt:138:9
+mul-write-bodies-2 : tie.Need-mul-write-bodies-2
+mul-write-bodies-2 c = search needs
+
+-- src/lib.rt:138:9
+sub-write-bodies-2 : tie.Need-sub-write-bodies-2
+sub-write-bodies-2 c = search needs
+
+-- src/lib.rt:138:9
+part-write-bodies-start-2 : tie.Need-part-write-bodies-start-2
+part-write-bodies-start-2 c = search needs
+
+-- src/lib.rt:138:9
+part-write-bodies-end-2 : tie.Need-part-write-bodies-end-2
+part-write-bodies-end-2 c = search needs
+
+-- src/lib.rt:139:9
+mul-write-bodies-3 : tie.Need-mul-write-bodies-3
+mul-write-bodies-3 c = search needs
+
+-- src/lib.rt:139:9
+sub-write-bodies-3 : tie.Need-sub-write-bodies-3
+sub-write-bodies-3 c = search needs
+
+-- src/lib.rt:139:9
+part-write-bodies-start-3 : tie.Need-part-write-bodies-start-3
+part-write-bodies-start-3 c = search needs
+
+-- src/lib.rt:139:9
+part-write-bodies-end-3 : tie.Need-part-write-bodies-end-3
+part-write-bodies-end-3 c = search needs
+
+-- src/lib.rt:140:9
+mul-write-bodies-4 : tie.Need-mul-write-bodies-4
+mul-write-bodies-4 c = search needs
+
+-- src/lib.rt:140:9
+sub-write-bodies-4 : tie.Need-sub-write-bodies-4
+sub-write-bodies-4 c = search needs
+
+-- src/lib.rt:140:9
+part-write-bodies-start-4 : tie.Need-part-write-bodies-start-4
+part-write-bodies-start-4 c = search needs
+
+-- src/lib.rt:140:9
+part-write-bodies-end-4 : tie.Need-part-write-bodies-end-4
+part-write-bodies-end-4 c = search needs
+
+-- src/lib.rt:141:9
+mul-write-bodies-5 : tie.Need-mul-write-bodies-5
+mul-write-bodies-5 c = search needs
+
+-- src/lib.rt:141:9
+sub-write-bodies-5 : tie.Need-sub-write-bodies-5
+sub-write-bodies-5 c = search needs
+
+-- src/lib.rt:141:9
+part-write-bodies-start-5 : tie.Need-part-write-bodies-start-5
+part-write-bodies-start-5 c = search needs
+
+-- src/lib.rt:141:9
+part-write-bodies-end-5 : tie.Need-part-write-bodies-end-5
+part-write-bodies-end-5 c = search needs
+
+-- src/lib.rt:142:9
+mul-write-bodies-6 : tie.Need-mul-write-bodies-6
+mul-write-bodies-6 c = search needs
+
+-- src/lib.rt:142:9
+sub-write-bodies-6 : tie.Need-sub-write-bodies-6
+sub-write-bodies-6 c = search needs
+
+-- src/lib.rt:142:9
+part-write-bodies-start-6 : tie.Need-part-write-bodies-start-6
+part-write-bodies-start-6 c = search needs
+
+-- src/lib.rt:142:9
+part-write-bodies-end-6 : tie.Need-part-write-bodies-end-6
+part-write-bodies-end-6 c = search needs
+
+-- src/lib.rt:143:9
+mul-write-bodies-7 : tie.Need-mul-write-bodies-7
+mul-write-bodies-7 c = search needs
+
+-- src/lib.rt:143:9
+sub-write-bodies-7 : tie.Need-sub-write-bodies-7
+sub-write-bodies-7 c = search needs
+
+-- src/lib.rt:143:9
+part-write-bodies-start-7 : tie.Need-part-write-bodies-start-7
+part-write-bodies-start-7 c = search needs
+
+-- src/lib.rt:143:9
+part-write-bodies-end-7 : tie.Need-part-write-bodies-end-7
+part-write-bodies-end-7 c = search needs
+
+-- src/lib.rt:134:5
+write-bodies-requires : tie.Need-write-bodies-requires
+write-bodies-requires c κs = let a = c .before .before .before .before .before .before .before .before .before .before .before in let q = cut-left (a .args .words .now) (a .pre .0 .0) (a .args .found) (a .pre .0 .1) (a .args .keep) (a .args .corners .now) _ _ _ _ (a .pre .1 .1 .1) (a .pre .1 .1 .0) (a .pre .1 .0 .1) in (a .pre .1 .0 .0, (cut-bodies (a .args .words .now) (a .pre .0 .0) (a .args .found) (a .pre .0 .1), q))
+
+-- src/lib.rt:111:1
 same-length : tie.Need-same-length
 same-length c = search needs
 
+-- src/lib.rt:111:1
 returns : tie.Need-returns
-returns c =
-    let a = c .before .before .before .before .before .before .before .before .before in
-    let p = a .pre .0 .1 in
-    c .before .before .copy .ensures
-    ∙ whole-chunk (a .args .keep) (a .args .corners .now) (a .args .words .now) (a .pre .0 .0) (a .args .out .now) (a .args .found .size) (sym (a .pre .1 .1) ∙ c .before .before .before .before .before .if1 .taken ∙ p .timeCount) (p .sized) (p .within) (a .pre .1 .0 .1)
-
-write-table-requires : tie.Need-write-table-requires
-write-table-requires c κs = search needs
-
-same-length-2 : tie.Need-same-length-2
-same-length-2 c = search needs
-
-returns-2 : tie.Need-returns-2
-returns-2 c =
-    let a = c .before .before .before .before .before .before .before .before .before in
-    c .before .before .write-table .ensures
-    ∙ no-chunk (a .args .keep) (a .args .corners .now) (a .args .words .now) (a .pre .0 .0) (a .args .out .now) (sym (a .pre .1 .1) ∙ c .before .before .before .before .if2 .taken) (omega (arith, a .pre .1 .0 .1))
-
-range-of-requires : tie.Need-range-of-requires
-range-of-requires c κs =
-    let a = c .before .before .before .before .before .before in
-    let m = few-stay (a .args .words .now) (a .pre .0 .0) (a .args .corners .now) (a .args .keep) in
-    omega (arith, a .pre .1 .1, a .pre .0 .1 .timeCount)
-
-retain-range-requires : tie.Need-retain-range-requires
-retain-range-requires c κs =
-    let a = c .before .before .before .before .before .before .before .before .before in
-    let p = a .pre .0 .1 in
-    let s = settled-as (a .args .words .now) _ _ (c .before .before .before .if3 .taken) (p .diffCount) (p .timeCount) in
-    let r = ranged-as (a .args .words .now) (a .pre .0 .0) (a .args .corners .now) (a .args .keep) (a .args .nt) (a .args .found .nt) (c .before .before .range-of .result) (c .before .before .range-of .ensures) s (a .pre .1 .1) (p .timeCount) (c .before .if4 .taken) in
-    ((a .pre .0 .0, (p, s)), (c .before .if4 .taken, (r .0, a .pre .1 .0 .1)))
-
-same-length-3 : tie.Need-same-length-3
-same-length-3 c = search needs
-
-returns-3 : tie.Need-returns-3
-returns-3 c =
-    let a = c .before .before .before .before .before .before .before .before .before .before .before .before in
-    let p = a .pre .0 .1 in
-    let s = settled-as (a .args .words .now) _ _ (c .before .before .before .before .before .before .if3 .taken) (p .diffCount) (p .timeCount) in
-    let r = ranged-as (a .args .words .now) (a .pre .0 .0) (a .args .corners .now) (a .args .keep) (a .args .nt) (a .args .found .nt) (c .before .before .before .before .before .range-of .result) (c .before .before .before .before .before .range-of .ensures) s (a .pre .1 .1) (p .timeCount) (c .before .before .before .before .if4 .taken) in
-    c .before .before .retain-range .ensures ∙ ap (λ (es : List Entry). over (chunkOf es) (a .args .out .now)) (sym (r .1))
-
-retain-some-requires : tie.Need-retain-some-requires
-retain-some-requires c κs = search needs
-
-same-length-4 : tie.Need-same-length-4
-same-length-4 c = search needs
-
-returns-4 : tie.Need-returns-4
-returns-4 c = search needs
+returns c = let a = c .before .before .before .before .before .before .before .before .before .before .before .before .before .before in c .before .before .write-bodies .ensures ∙ ap (λ (l : List ℕ). over l (a .args .out .now)) (cut-words (a .args .words .now) (a .pre .0 .0) (a .args .found) (a .pre .0 .1) (a .args .keep) (a .args .corners .now) _ _ _ (a .pre .1 .1 .1) (a .pre .1 .1 .0))
 
 pub retain-items-spec : {M : Type 1} → statement M
 retain-items-spec =
     tie.close
     (tie.spec
-    slice-aggregate-copy
-    copy-requires
+    mul-write-bodies
+    sub-write-bodies
+    part-write-bodies-start
+    part-write-bodies-end
+    mul-write-bodies-2
+    sub-write-bodies-2
+    part-write-bodies-start-2
+    part-write-bodies-end-2
+    mul-write-bodies-3
+    sub-write-bodies-3
+    part-write-bodies-start-3
+    part-write-bodies-end-3
+    mul-write-bodies-4
+    sub-write-bodies-4
+    part-write-bodies-start-4
+    part-write-bodies-end-4
+    mul-write-bodies-5
+    sub-write-bodies-5
+    part-write-bodies-start-5
+    part-write-bodies-end-5
+    mul-write-bodies-6
+    sub-write-bodies-6
+    part-write-bodies-start-6
+    part-write-bodies-end-6
+    mul-write-bodies-7
+    sub-write-bodies-7
+    part-write-bodies-start-7
+    part-write-bodies-end-7
+    write-bodies-requires
     same-length
-    returns
-    write-table-requires
-    same-length-2
-    returns-2
-    range-of-requires
-    retain-range-requires
-    same-length-3
-    returns-3
-    retain-some-requires
-    same-length-4
-    returns-4)
+    returns)

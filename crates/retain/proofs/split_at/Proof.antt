@@ -1,23 +1,19 @@
 -- `retain::split_at` meets its contract: each refusal leaves both outputs, and what is retained is what is below n, and the rest.
-use Prim.Native.Nat.{ℕ, _-_, _<_, _≤_, min}
-use mathlib.Core.Path.{_≡_, refl, sym, _∙_, ap}
+use Prim.Native.Nat.{ℕ, _<_, _≤_, min}
+use mathlib.Core.Path.{_≡_, sym, _∙_, ap}
 use mathlib.Core.Bool.{true, false}
-use mathlib.Core.List.{List, []}
+use mathlib.Core.List.{List}
 use mathlib.Core.Logic.{⊎-elim}
 use native.Mathlib.Omega.{arith}
-use lib.ListN.{length, take, drop, length-take, length-drop}
+use lib.ListN.{length, take, drop}
 use borrow.Author.Tests.{lt-ltb, le-ltb, not-true, not-false}
-use Rattle.chunk.specs.Entry.{Entry, every, stands}
+use Rattle.chunk.specs.Entry.{Entry}
 use Rattle.chunk.specs.Bodies.{chunkOf}
-use Rattle.chunk.specs.Words.{wellFormed, settled, entries, size, over, nt}
+use Rattle.chunk.specs.Words.{wellFormed, settled, entries, size, over}
 use Rattle.chunk.specs.Refusal.{first, written}
-use Rattle.laws.proofs.OneChunk.{settled-stands, front-is-chunk}
 use Rattle.retain.specs.Cut.{Split, splitNumber, splitFirst, splitRest}
-use Rattle.retain.specs.declared.Keep.the-variants.{Below, From}
-use Rattle.retain.specs.Keep.{retainedOf}
-use Rattle.retain.specs.Frontier.{ordered}
 use Rattle.retain.proofs.Checked.{passed, failed}
-use Rattle.retain.proofs.Picks.{retained-below, retained-from}
+use Rattle.retain.proofs.Whole.{first-part, rest-part}
 use borrow.Author.Needs.{needs}
 use Rattle.retain.proofs.split_at.Statement.{statement}
 use Rattle.retain.proofs.split_at.Tie as tie
@@ -55,22 +51,6 @@ least-all n all cut h e = omega arith
 least-cut : (n all cut : ℕ) → n ≤ all → cut ≡ n → cut ≡ min n all
 least-cut n all cut h e = omega arith
 
--- how many are before the cut, and how many from it on
-module _ (w : List ℕ) (n cut all : ℕ) (f : wellFormed w ≡ true) (s : settled w ≡ true) (e : all ≡ nt w) (corners : List ℕ) where
-  stand : every stands (entries w) ≡ true
-  stand = sym (settled-stands w f) ∙ s
-
-  first-count : cut ≡ min n all → cut ≡ length (retainedOf (Below n) corners w)
-  first-count h =
-      h ∙ ap (min n) (e ∙ sym (front-is-chunk w f .counted)) ∙ sym (length-take n (entries w)) ∙ ap length (sym (retained-below w f corners stand n))
-
-  rest-count : cut ≡ min n all → all - cut ≡ length (retainedOf (From n) corners w)
-  rest-count h =
-      let l : length (drop n (entries w)) ≡ length (entries w) - n = length-drop n (entries w) in
-      let k : length (entries w) ≡ nt w = front-is-chunk w f .counted in
-      let m : all - cut ≡ length (entries w) - n = omega arith in
-      m ∙ sym l ∙ ap length (sym (retained-from w f corners stand n))
-
 check-requires : tie.Need-check-requires
 check-requires c κs = search needs
 
@@ -99,35 +79,21 @@ returns-4 c =
     let s : settled (a .words .now) ≡ true = sym (p .settles) ∙ not-false _ (c .before .before .before .if2 .left) in
     short-rest (a .words .now) (a .n) (a .first .now) (a .rest .now) (p .formed) s (omega (arith, p .spread .sized)) (omega (arith, p .spread .sized))
 
-sub-none : tie.Need-sub-none
-sub-none c = search needs
+retain-cut-requires : tie.Need-retain-cut-requires
+retain-cut-requires c κs =
+    let a = c .before .before .before .before .before .before .before .before .before .before .before .args in
+    let p = passed _ (a .words .now) (c .before .before .before .before .before .before .before .check .ensures) (c .before .before .before .before .before .before .if1 .left) in
+    let s : settled (a .words .now) ≡ true = sym (p .settles) ∙ not-false _ (c .before .before .before .before .before .if2 .left) in
+    let m : c .before .if5 .cut ≡ min (a .n) (c .before .before .before .before .before .before .before .check .result .contents .nt) = ⊎-elim (λ w. least-all _ _ _ (w .0 .taken) (w .1)) (λ w. least-cut _ _ _ (w .0 .left) (w .1)) (c .before .if5 .came) in
+    ((p .formed, (p .spread, s)), (omega arith, (omega (arith, p .spread .timeCount), omega (arith, p .spread .sized))))
 
-part-none-start : tie.Need-part-none-start
-part-none-start c = search needs
-
-part-none-end : tie.Need-part-none-end
-part-none-end c = search needs
-
-retain-items-requires : tie.Need-retain-items-requires
-unfolding ordered
-retain-items-requires c κs =
-    let a = c .before .before .before .before .before .before .before .before .before .before .before .before .args in
-    let p = passed _ (a .words .now) (c .before .before .before .before .before .before .before .before .check .ensures) (c .before .before .before .before .before .before .before .if1 .left) in
-    let s : settled (a .words .now) ≡ true = sym (p .settles) ∙ not-false _ (c .before .before .before .before .before .before .if2 .left) in
-    let m : c .before .before .if5 .cut ≡ min (a .n) (c .before .before .before .before .before .before .before .before .check .result .contents .nt) = ⊎-elim (λ w. least-all _ _ _ (w .0 .taken) (w .1)) (λ w. least-cut _ _ _ (w .0 .left) (w .1)) (c .before .before .if5 .came) in
-    ((p .formed, p .spread), ((refl, omega (arith, p .spread .sized)), first-count (a .words .now) (a .n) _ _ (p .formed) s (p .spread .timeCount) [] m))
-
-sub-retain-items : tie.Need-sub-retain-items
-sub-retain-items c = ⊎-elim (λ w. let e = w .1 in omega arith) (λ w. let e = w .1 in let l = w .0 .left in omega arith) (c .before .before .before .before .before .before .if5 .came)
-
-retain-items-requires-2 : tie.Need-retain-items-requires-2
-unfolding ordered
-retain-items-requires-2 c κs =
-    let a = c .before .before .before .before .before .before .before .before .before .before .before .before .before .before .before .before .before .args in
-    let p = passed _ (a .words .now) (c .before .before .before .before .before .before .before .before .before .before .before .before .before .check .ensures) (c .before .before .before .before .before .before .before .before .before .before .before .before .if1 .left) in
-    let s : settled (a .words .now) ≡ true = sym (p .settles) ∙ not-false _ (c .before .before .before .before .before .before .before .before .before .before .before .if2 .left) in
-    let m : c .before .before .before .before .before .before .before .if5 .cut ≡ min (a .n) (c .before .before .before .before .before .before .before .before .before .before .before .before .before .check .result .contents .nt) = ⊎-elim (λ w. least-all _ _ _ (w .0 .taken) (w .1)) (λ w. least-cut _ _ _ (w .0 .left) (w .1)) (c .before .before .before .before .before .before .before .if5 .came) in
-    ((p .formed, p .spread), ((refl, omega (arith, p .spread .sized)), rest-count (a .words .now) (a .n) _ _ (p .formed) s (p .spread .timeCount) [] m))
+retain-cut-requires-2 : tie.Need-retain-cut-requires-2
+retain-cut-requires-2 c κs =
+    let a = c .before .before .before .before .before .before .before .before .before .before .before .before .before .before .before .args in
+    let p = passed _ (a .words .now) (c .before .before .before .before .before .before .before .before .before .before .before .check .ensures) (c .before .before .before .before .before .before .before .before .before .before .if1 .left) in
+    let s : settled (a .words .now) ≡ true = sym (p .settles) ∙ not-false _ (c .before .before .before .before .before .before .before .before .before .if2 .left) in
+    let m : c .before .before .before .before .before .if5 .cut ≡ min (a .n) (c .before .before .before .before .before .before .before .before .before .before .before .check .result .contents .nt) = ⊎-elim (λ w. least-all _ _ _ (w .0 .taken) (w .1)) (λ w. least-cut _ _ _ (w .0 .left) (w .1)) (c .before .before .before .before .before .if5 .came) in
+    ((p .formed, (p .spread, s)), (omega arith, (omega (arith, p .spread .timeCount), omega (arith, p .spread .sized))))
 
 same-length : tie.Need-same-length
 same-length c = search needs
@@ -137,13 +103,13 @@ same-length-2 c = search needs
 
 returns-5 : tie.Need-returns-5
 returns-5 c =
-    let a = c .before .before .before .before .before .before .before .before .before .before .before .before .before .before .before .before .before .before .before .before .args in
-    let p = passed _ (a .words .now) (c .before .before .before .before .before .before .before .before .before .before .before .before .before .before .before .before .check .ensures) (c .before .before .before .before .before .before .before .before .before .before .before .before .before .before .before .if1 .left) in
-    let s : settled (a .words .now) ≡ true = sym (p .settles) ∙ not-false _ (c .before .before .before .before .before .before .before .before .before .before .before .before .before .before .if2 .left) in
-    let v : every stands (entries (a .words .now)) ≡ true = sym (settled-stands (a .words .now) (p .formed)) ∙ s in
+    let a = c .before .before .before .before .before .before .before .before .before .before .before .before .before .before .before .before .before .before .args in
+    let p = passed _ (a .words .now) (c .before .before .before .before .before .before .before .before .before .before .before .before .before .before .check .ensures) (c .before .before .before .before .before .before .before .before .before .before .before .before .before .if1 .left) in
+    let s : settled (a .words .now) ≡ true = sym (p .settles) ∙ not-false _ (c .before .before .before .before .before .before .before .before .before .before .before .before .if2 .left) in
+    let m : c .before .before .before .before .before .before .before .before .if5 .cut ≡ min (a .n) (c .before .before .before .before .before .before .before .before .before .before .before .before .before .before .check .result .contents .nt) = ⊎-elim (λ w. least-all _ _ _ (w .0 .taken) (w .1)) (λ w. least-cut _ _ _ (w .0 .left) (w .1)) (c .before .before .before .before .before .before .before .before .if5 .came) in
     accepted (a .words .now) (a .n) (a .first .now) (a .rest .now) _ _ (p .formed) s (omega (arith, p .spread .sized)) (omega (arith, p .spread .sized))
-    (c .before .before .before .before .before .before .before .retain-items .ensures ∙ ap (λ (es : List Entry). over (chunkOf es) (a .first .now)) (retained-below (a .words .now) (p .formed) _ v (a .n)))
-    (c .before .before .retain-items2 .ensures ∙ ap (λ (es : List Entry). over (chunkOf es) (a .rest .now)) (retained-from (a .words .now) (p .formed) _ v (a .n)))
+    (c .before .before .before .before .before .before .retain-cut .ensures ∙ ap (λ (es : List Entry). over (chunkOf es) (a .first .now)) (first-part (a .words .now) (p .formed) (a .n) _ _ (p .spread .timeCount) m))
+    (c .before .before .retain-cut2 .ensures ∙ ap (λ (es : List Entry). over (chunkOf es) (a .rest .now)) (rest-part (a .words .now) (p .formed) (a .n) _ _ (p .spread .timeCount) m))
 
 pub split-at-spec : {M : Type 1} → statement M
 split-at-spec =
@@ -154,12 +120,8 @@ split-at-spec =
     returns-2
     returns-3
     returns-4
-    sub-none
-    part-none-start
-    part-none-end
-    retain-items-requires
-    sub-retain-items
-    retain-items-requires-2
+    retain-cut-requires
+    retain-cut-requires-2
     same-length
     same-length-2
     returns-5)

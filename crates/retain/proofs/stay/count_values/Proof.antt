@@ -1,50 +1,73 @@
 -- `retain::stay::count_values` meets its contract: what is counted and what is left to count is the count of all.
-use Prim.Native.Nat.{_-_}
+use Prim.Native.Nat.{_-_, _<_}
+use mathlib.Core.Path.{_≡_, refl}
 use native.Mathlib.Omega.{arith}
-use Rattle.retain.specs.Keep.{timeKept}
-use Rattle.retain.specs.Layers.{listKept}
-use Rattle.retain.proofs.Counts.{Counted, counted-start, counted-bit, counted-end, range-counts, list-left}
+use lib.ListN.{length}
+use Rattle.chunk.specs.Contents.{startOf}
+use Rattle.retain.specs.Layers.{listKept, hasDiff}
+use Rattle.retain.proofs.Counts.{Counted, counted-start, counted-bit, counted-end}
 use Rattle.retain.proofs.Stairs.{bit-one}
+use Rattle.retain.proofs.Parting.{end-within, standing-left, reach-next}
 use borrow.Author.Needs.{needs}
 use Rattle.retain.proofs.stay.count_values.Statement.{statement}
 use Rattle.retain.proofs.stay.count_values.Tie as tie
+use Rattle.retain.proofs.stay.count_values.Reads as reads
+use Rattle.retain.proofs.stay.count_values.Lts as lts
+use Rattle.retain.proofs.stay.bit_of.Reads as bit-of-reads
 
 abbrev Inv-loop : tie.InvT-loop
-Inv-loop keep times corners diff-ends time-ends from to count₀ i₀ count i = Counted (listKept (timeKept keep times corners diff-ends) time-ends) from to count i
+Inv-loop diff-ends time-ends from to before count₀ below₀ i₀ count below i = Counted (listKept (hasDiff diff-ends) time-ends) from to count i × (below ≡ startOf diff-ends (startOf time-ends i))
 
 abbrev μ-loop : tie.MeasureT-loop
-μ-loop keep times corners diff-ends time-ends from to count₀ i₀ count i = to - i
+μ-loop diff-ends time-ends from to before count₀ below₀ i₀ count below i = to - i
 
+-- src/stay.rt:55:5
 loop-holds : tie.Need-loop-holds Inv-loop μ-loop
-loop-holds c = counted-start _ _ _
+loop-holds c = (counted-start _ _ _, c .before .before .pre .1 .1)
 
-child-range-requires : tie.Need-child-range-requires Inv-loop μ-loop
-child-range-requires c κs = search needs
+-- src/stay.rt:56:19
+mul-end : tie.Need-mul-end Inv-loop μ-loop
+mul-end c = search needs
 
-count-times-requires : tie.Need-count-times-requires Inv-loop μ-loop
-count-times-requires c κs = c .before .before .before .before .before .before .before .pre
+-- src/stay.rt:56:19
+shared-slice-read-end : tie.Need-shared-slice-read-end Inv-loop μ-loop
+shared-slice-read-end c = search needs
 
+-- src/stay.rt:57:31
+sub-reach : tie.Need-sub-reach Inv-loop μ-loop
+sub-reach c = let a = c .before .before .before .before .before in let l = c .before .before .loop in let t = c .before .loop-test .taken in let h : l .i < length (a .args .time-ends .now) = omega (arith, t, a .pre .1 .0) in let e = end-within _ _ (l .i) _ (a .pre .0 .1) h refl in omega (arith, e .0)
+
+-- src/stay.rt:57:21
+mul-reach : tie.Need-mul-reach Inv-loop μ-loop
+mul-reach c = let a = c .before .before .before .before .before in let l = c .before .before .loop in let t = c .before .loop-test .taken in let h : l .i < length (a .args .time-ends .now) = omega (arith, t, a .pre .1 .0) in let e = end-within _ _ (l .i) _ (a .pre .0 .1) h refl in omega (arith, e .0, e .1, a .good)
+
+-- src/stay.rt:57:21
+shared-slice-read-reach : tie.Need-shared-slice-read-reach Inv-loop μ-loop
+shared-slice-read-reach c = let a = c .before .before .before .before .before .before in let l = c .before .before .before .loop in let t = c .before .before .loop-test .taken in let h : l .i < length (a .args .time-ends .now) = omega (arith, t, a .pre .1 .0) in let e = end-within _ _ (l .i) _ (a .pre .0 .1) h refl in omega (arith, e .0, e .1)
+
+-- src/stay.rt:58:18
 bit-of-requires : tie.Need-bit-of-requires Inv-loop μ-loop
 bit-of-requires c κs = search needs
 
+-- src/stay.rt:58:9
 add-count : tie.Need-add-count Inv-loop μ-loop
-add-count c = let w = c .before .before .before .before .loop .inv .within in let m = bit-one _ _ (c .bit-of .ensures) in omega arith
+add-count c = let w = c .before .before .before .before .loop .inv .0 .within in let m = bit-one _ _ (c .bit-of .ensures) in omega arith
 
+-- src/stay.rt:60:9
 add-i : tie.Need-add-i Inv-loop μ-loop
 add-i c = search needs
 
+-- src/stay.rt:55:5
 loop-less : tie.Need-loop-less Inv-loop μ-loop
 loop-less c = search needs
 
+-- src/stay.rt:55:5
 loop-again : tie.Need-loop-again Inv-loop μ-loop
-loop-again c =
-    let l = c .before .before .before .before .loop in
-    let t = c .before .before .before .loop-test .taken in
-    let k = range-counts _ _ (l .i) _ _ (c .before .before .child-range .ensures) (c .before .count-times .ensures) in
-    counted-bit _ _ _ _ (l .i) _ (l .inv) t (list-left _ _ (l .i) _ _ k (c .bit-of .ensures))
+loop-again c = let a = c .before .before .before .before .before .before .before in let l = c .before .before .before .before .loop in let t = c .before .before .before .loop-test .taken in let h : l .i < length (a .args .time-ends .now) = omega (arith, t, a .pre .1 .0) in let e = end-within _ _ (l .i) _ (a .pre .0 .1) h refl in (counted-bit _ _ _ _ (l .i) _ (l .inv .0) t (standing-left _ _ (a .pre .0 .0) (a .pre .0 .1) (l .i) _ h (l .inv .1) _ (c .bit-of .ensures)), reach-next _ _ (a .pre .0 .0) (a .pre .0 .1) (l .i) _ h (l .inv .1))
 
+-- src/stay.rt:41:1
 returns : tie.Need-returns Inv-loop μ-loop
-returns c = counted-end _ _ _ _ _ (c .before .loop .inv) (c .loop-test .left)
+returns c = counted-end _ _ _ _ _ (c .before .loop .inv .0) (c .loop-test .left)
 
 pub count-values-spec : {M : Type 1} → statement M
 count-values-spec =
@@ -53,8 +76,11 @@ count-values-spec =
     Inv-loop
     μ-loop
     loop-holds
-    child-range-requires
-    count-times-requires
+    mul-end
+    shared-slice-read-end
+    sub-reach
+    mul-reach
+    shared-slice-read-reach
     bit-of-requires
     add-count
     add-i

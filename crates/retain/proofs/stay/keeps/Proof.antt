@@ -23,22 +23,6 @@ known times corners i k j e = ap (λ (x : Keep). keepsAt x times corners i) (sym
 enum-told : tie.Need-enum-told
 enum-told c = search needs
 
--- src/stay.rt:33:21
-enum-known-keep : tie.Need-enum-known-keep
-enum-known-keep c = search needs
-
--- src/stay.rt:33:27
-bit-of-requires : tie.Need-bit-of-requires
-bit-of-requires c κs = search needs
-
--- src/stay.rt:34:20
-enum-known-keep-2 : tie.Need-enum-known-keep-2
-enum-known-keep-2 c = search needs
-
--- src/stay.rt:34:26
-bit-of-requires-2 : tie.Need-bit-of-requires-2
-bit-of-requires-2 c κs = search needs
-
 -- src/stay.rt:35:41
 enum-told-2 : tie.Need-enum-told-2
 enum-told-2 c = search needs
@@ -82,29 +66,17 @@ returns c = search needs
 
 -- src/stay.rt:27:1
 returns-2 : tie.Need-returns-2
-returns-2 c = let a = c .before .before .before .before .before .before .args in c .bit-of .ensures ∙ ap bit (known (a .times .now) (a .corners .now) (a .i) _ _ (c .before .before .keep .given .1))
+returns-2 c = let a = c .before .before .before .before .before .before .args in c .open-bit .ensures ∙ ap bit (known (a .times .now) (a .corners .now) (a .i) _ _ (c .before .before .enum-told2 .given .1))
 
 -- src/stay.rt:27:1
 returns-3 : tie.Need-returns-3
-returns-3 c = let a = c .before .before .before .before .before .before .args in c .bit-of2 .ensures ∙ ap bit (known (a .times .now) (a .corners .now) (a .i) _ _ (c .before .before .keep2 .given .1))
-
--- src/stay.rt:27:1
-returns-4 : tie.Need-returns-4
-returns-4 c = let a = c .before .before .before .before .before .before .args in c .open-bit .ensures ∙ ap bit (known (a .times .now) (a .corners .now) (a .i) _ _ (c .before .before .enum-told2 .given .1))
-
--- src/stay.rt:27:1
-returns-5 : tie.Need-returns-5
-returns-5 c = let a = c .before .before .before .before .before .before .args in bit-not _ _ (c .open-bit2 .ensures) ∙ ap bit (known (a .times .now) (a .corners .now) (a .i) _ _ (c .before .before .enum-told3 .given .1))
+returns-3 c = let a = c .before .before .before .before .before .before .args in bit-not _ _ (c .open-bit2 .ensures) ∙ ap bit (known (a .times .now) (a .corners .now) (a .i) _ _ (c .before .before .enum-told3 .given .1))
 
 pub keeps-spec : {M : Type 1} → statement M
 keeps-spec =
     tie.close
     (tie.spec
     enum-told
-    enum-known-keep
-    bit-of-requires
-    enum-known-keep-2
-    bit-of-requires-2
     enum-told-2
     mul-open-bit
     shared-slice-read-open-bit
@@ -116,6 +88,4 @@ keeps-spec =
     sub-result
     returns
     returns-2
-    returns-3
-    returns-4
-    returns-5)
+    returns-3)

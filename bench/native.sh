@@ -25,6 +25,7 @@ END
 chmod +x "$links/toolchain/bin/clang"
 RATTLE_HOME=$made/kit rt staticlib host
 [ -s "$made/module.bc" ] || { echo "native.sh: the kit's clang was handed no module" >&2; exit 1; }
+# the module names its processor, x86-64, which clang then says that it passes over
 "$kit/on/$here/toolchain/bin/clang" --target="$here-unknown-linux-gnu" -Wno-override-module -ffunction-sections -fdata-sections \
     -c -x ir "$made/module.bc" -o "$made/module.o" -fPIC -O3
 cc -std=c11 -D_POSIX_C_SOURCE=200809L -O3 -Ihost -o "$made/ours" bench/ours.c "$made/module.o"

@@ -37,7 +37,12 @@ build/ours: bench/ours.c host/rafterloop.h $(LIB)
 speed: build/ours
 	python3 bench/run.py --run "$(RUN)"
 
+# on a machine that isn't x86-64: times all the same, of the library's module built for it
+speed-here:
+	sh bench/native.sh
+	python3 bench/run.py --ours build/native/ours --built-for-here
+
 clean:
 	rm -rf build
 
-.PHONY: all test fold compare speed clean
+.PHONY: all test fold compare speed speed-here clean

@@ -2,16 +2,23 @@
 """Times the library's calls beside the Rust's, on the same inputs, and prints the table of docs/SPEED.md.
 
     make speed                                               builds both, and runs this
-    python3 bench/run.py [--sizes N..] [--seconds S] [--docs DOCS_SRC] [--run EMULATOR]
+    make speed-here                                          the same, with the library built for a machine that isn't x86-64
+    python3 bench/run.py [--sizes N..] [--seconds S] [--rounds R] [--docs DOCS_SRC] [--run EMULATOR] [--ours PATH] [--built-for-here]
 
-The inputs are made here with a fixed seed and handed to both in one file: build/ours (bench/ours.c over libhost.a) and
-oracle/target/release/speed (the Rust over the stand-ins of oracle/README.md; both built for release). Each gives the best and the median
-of its runs, and a sum over all words of its result; the sums must be equal, so both did the same work. A time is nanoseconds for each
-record of the input. Two shapes: flat, one value a key and one time a value; trie, about four values a key and four times a value.
+The inputs are made here with a fixed seed and handed to both in one file: PATH, which is build/ours where nothing is said (bench/ours.c over
+libhost.a), and oracle/target/release/speed (the Rust over the stand-ins of oracle/README.md, which is built from DOCS_SRC where it isn't
+there; both built for release). The two run in turn, in R rounds, S seconds for each case; each gives the best and the median of its runs in
+the round, and a sum over all words of its result. The sums of one case must be equal, of both and in every round, so both did the same work.
+Two shapes: flat, one value a key and one time a value; trie, about four values a key and four times a value.
 
-On a machine that isn't x86-64 the library runs under an emulator. Its times then say nothing, and none are printed: the run only shows
-that everything builds and that the results are the same."""
-import argparse, array, os, platform, random, shlex, subprocess, sys
+A time is nanoseconds for each record of the input, the best of all rounds. A ratio is the median over the rounds of the library's best in a
+round by the Rust's best in the same round. Under a merge stands the same less the check of its inputs: its ratio subtracts the check's best
+from the merge's in each round, its time is the best merge less the best check.
+
+On a machine that isn't x86-64 the library runs under an emulator (--run). Its times then say nothing, and none are printed: the run only
+shows that everything builds and that the results are the same. --built-for-here says that the program at PATH was built for this machine, as
+bench/native.sh does; then times are printed, and the first line says that they aren't those of the library that ships."""
+import argparse, array, math, os, platform, random, shlex, statistics, subprocess, sys
 TOP = os.path.dirname(os.path.dirname(os.path.abspath(__file__)))
 sys.path.insert(0, os.path.join(TOP, "oracle"))
 from compare import chunk_of, cursor_at, TOP64
@@ -74,20 +81,29 @@ def built(o):
         subprocess.run(["sh", os.path.join(TOP, "oracle", "build.sh"), os.path.abspath(o.docs)], check=True)
     return speed
 
-def answers(command, path, seconds):
-    out = subprocess.run(command + [path, str(int(seconds * 1e9))], capture_output=True, text=True)
+def answers(command, path, o, count):
+    """One round of one of the two: for each case its best, median and sum, or None where it has no such call or refused it."""
+    out = subprocess.run(command + [path, str(int(o.seconds * 1e9))], capture_output=True, text=True)
     if out.returncode:
         sys.exit("%s: status %d\n%s" % (command, out.returncode, out.stderr))
-    return [None if l == "-" else [int(x) for x in l.split()] for l in out.stdout.split("\n")[:-1]]
+    lines = out.stdout.split("\n")[:-1]
+    if len(lines) != count:
+        sys.exit("%s: %d answers to %d cases" % (command, len(lines), count))
+    return [None if l == "-" else [int(x) for x in l.split()] for l in lines]
 
-def both(ours, speed, path, o):
-    """The answers of the two, in turn, so that a busy moment of the machine falls on both; of each case the round with the best run."""
-    mine = theirs = None
-    for _ in range(o.rounds):
-        x, y = answers(ours, path, o.seconds), answers(speed, path, o.seconds)
-        best = lambda old, new: [min(a, b) if a and b else b for a, b in zip(old or new, new)]
-        mine, theirs = best(mine, x), best(theirs, y)
-    return mine, theirs
+def both(ours, speed, path, o, count):
+    """The answers of the two, in turn, so that a busy moment of the machine falls on both: for each case, ours of every round and theirs."""
+    rounds = [(answers(ours, path, o, count), answers(speed, path, o, count)) for _ in range(o.rounds)]
+    return [([mine[i] for mine, _ in rounds], [theirs[i] for _, theirs in rounds]) for i in range(count)]
+
+def agree(call, xs, ys):
+    """Whether each round of each gave the one sum. A check has no counterpart in the Rust, and a plain merge none in the library."""
+    sums = {z and z[2] for z in (xs if call == "check" else ys if call == "plain merge" else xs + ys)}
+    return len(sums) == 1 and None not in sums
+
+def over(f, times):
+    """f of the rounds' times, or NaN where a round has none."""
+    return math.nan if any(t != t for t in times) else f(times)
 
 def machine():
     name = [l.split(":", 1)[1].strip() for l in open("/proc/cpuinfo") if l.startswith("model name")]
@@ -99,12 +115,20 @@ def main():
     p.add_argument("--seconds", type=float, default=0.1, help="for each case in each round, of each of the two")
     p.add_argument("--rounds", type=int, default=8)
     p.add_argument("--docs", default=os.path.join(TOP, "..", "shared", "docs", "src"))
-    p.add_argument("--run", default="")
+    p.add_argument("--run", default="", help="an emulator for the library's program")
+    p.add_argument("--ours", default=os.path.join(TOP, "build", "ours"), help="the library's program")
+    p.add_argument("--built-for-here", action="store_true", help="it was built for this machine, so its times count")
     o = p.parse_args()
-    speed, ours = built(o), shlex.split(o.run) + [os.path.join(TOP, "build", "ours")]
-    native = platform.machine() == "x86_64" and not o.run
+    if o.rounds < 1:
+        p.error("at least one round")
+    if o.run and o.built_for_here:
+        p.error("what was built for this machine needs no emulator")
+    speed, ours = built(o), shlex.split(o.run) + [os.path.abspath(o.ours)]
+    native = o.built_for_here or platform.machine() == "x86_64" and not o.run
     path = os.path.join(TOP, "build", "cases.bin")
-    print("Machine: %s. Best of the runs within %d rounds of %g s a case, the two in turn.\n" % (machine(), o.rounds, o.seconds))
+    os.makedirs(os.path.dirname(path), exist_ok=True)
+    print("Machine: %s%s. Best of the runs within %d rounds of %g s a case, the two in turn; a ratio is the median of the rounds' ratios.\n" % (
+        machine(), "; the library's LLVM module built for this machine, not the library that ships, which is x86-64" if o.built_for_here else "", o.rounds, o.seconds))
     print("| call | shape | records | ours, ns a record | the Rust's | ratio | budget |\n|---|---|---|---|---|---|---|")
     wrong = same = 0
     for n in o.sizes:
@@ -114,23 +138,25 @@ def main():
                 for call, _, a, b in every:
                     for part in ([CALLS.index(call)], [len(a)], [x % TOP64 for x in a], [len(b)], [x % TOP64 for x in b]):
                         array.array("Q", part).tofile(f)
-            mine, theirs = both(ours, [speed], path, o)
-            for (call, records, _, b), x, y in zip(every, mine, theirs):
-                if x and y and call != "plain merge":
-                    same, wrong = same + (x[2] == y[2]), wrong + (x[2] != y[2])
-                    if x[2] != y[2]:
-                        print("%s, %s, %d records: the results differ" % (call, shape, records))
-                ns = lambda z: "%.2f" % (z[0] / records) if z and native else "-"
-                budget = BUDGET.get(call, "-")
+            for (call, records, _, b), (xs, ys) in zip(every, both(ours, [speed], path, o, len(every))):
+                if not agree(call, xs, ys):
+                    wrong += 1
+                    print("%s, %s, %d records: the results differ" % (call, shape, records))
+                elif call not in ("check", "plain merge"):
+                    same += 1
+                xs, ys = ([z[0] if z else math.nan for z in zs] for zs in (xs, ys))
+                mine, budget = over(min, xs), BUDGET.get(call, "-")
                 if call == "merge_pair":
-                    merge = x, y
+                    merge = xs, ys
                     budget = budget if n == 65536 and records <= n + 64 else "-"
                 elif call == "check" and b:
-                    call, x, y = "merge_pair less its check", [merge[0][0] - x[0]], merge[1]
+                    call, mine = "merge_pair less its check", over(min, merge[0]) - mine
+                    xs, ys = [m - x for m, x in zip(merge[0], xs)], merge[1]
                 elif call == "plain merge":
-                    x, budget = merge[0], 2.0 if n == 65536 and records <= n + 64 else "-"
-                ratio = "%.2f" % (x[0] / y[0]) if x and y and native else "-"
-                print("| %s | %s | %d | %s | %s | %s | %s |" % (call, shape, records, ns(x), ns(y), ratio, budget))
+                    xs, mine, budget = merge[0], over(min, merge[0]), 2.0 if n == 65536 and records <= n + 64 else "-"
+                shown = ["%.2f" % t if native and t == t else "-" for t in (
+                    mine / records, over(min, ys) / records, over(statistics.median, [x / y for x, y in zip(xs, ys)]))]
+                print("| %s | %s | %d | %s | %s |" % (call, shape, records, " | ".join(shown), budget))
     print("\n%d results the same in both, %d differ" % (same, wrong))
     if not native:
         print("The library ran under an emulator, so no times are given.")

@@ -1,18 +1,17 @@
 -- The least times: those with no different one at or below them. The least number is one of them, and the others are the least of the
 -- times with a lower tick.
-use Prim.Native.Nat.{ℕ, zero, suc, _+_, _-_, _*_, _<_, _≤_, _/_, _%_, _^_}
+use Prim.Native.Nat.{ℕ, _-_, _<_, _≤_}
 use mathlib.Core.Path.{_≡_, refl, sym, _∙_, ap}
-use mathlib.Core.Bool.{Bool, true, false, not, cond, _&&_, _||_}
+use mathlib.Core.Bool.{Bool, true, false, not, _&&_, _||_}
 use mathlib.Core.List.{List, [], _∷_, foldr}
 use native.Mathlib.Omega.{arith}
 use lib.Dec.{ltb, leb, eqb}
-use lib.ListN.{length}
-use borrow.Author.Tests.{ltb-true, ltb-false, leb-true, leb-false, eqb-true, eqb-false, lt-ltb, le-ltb, le-leb, lt-leb, eq-eqb, ne-eqb, not-true, not-false}
+use borrow.Author.Tests.{ltb-true, ltb-false, leb-true, eqb-true, eqb-false, lt-ltb, le-leb, eq-eqb, ne-eqb}
 use Rattle.chunk.specs.Entry.{ignition, tick, keep, every}
 use Rattle.chunk.specs.Time.{atOrBelow}
 use Rattle.chunk.specs.Words.{rises, risesFrom}
-use Rattle.laws.proofs.Tests.{by-test, and-left, and-right, and-both, and-false, bool-eq, true-not-false}
-use Rattle.retain.specs.Frontier.{any, isOpen, insertTime, leastOf}
+use Rattle.laws.proofs.Tests.{by-test, and-left, and-right, and-both, and-false, true-not-false}
+use Rattle.retain.specs.Frontier.{any, insertTime, leastOf}
 
 -- ---- members
 

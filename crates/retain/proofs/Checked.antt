@@ -1,13 +1,13 @@
 -- What the check of a chunk tells.
-use Prim.Native.Nat.{ℕ, suc}
-use mathlib.Core.Path.{_≡_, refl, sym, _∙_, ap}
-use mathlib.Core.Bool.{Bool, true, false}
+use Prim.Native.Nat.{ℕ}
+use mathlib.Core.Path.{_≡_, _∙_, ap}
+use mathlib.Core.Bool.{true, false}
 use mathlib.Core.List.{List}
 use native.Mathlib.Omega.{arith}
 use Rattle.chunk.specs.declared.Checked.{Checked}
 use Rattle.chunk.specs.Check.{checkedOf, checkedAs}
 use Rattle.chunk.specs.Words.{wellFormed, settled}
-use Rattle.chunk.specs.Contents.{Placed, contentsOf}
+use Rattle.chunk.specs.Contents.{Placed}
 use Rattle.chunk.proofs.Placed.{placed}
 use Rattle.laws.proofs.Tests.{by-test}
 use Rattle.laws.proofs.Frame.{parts}

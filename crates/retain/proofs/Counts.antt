@@ -1,16 +1,16 @@
 -- Counting the items that pass, one by one.
 use Prim.Native.Nat.{ℕ, zero, suc, _+_, _-_, _<_, _≤_}
 use mathlib.Core.Path.{_≡_, refl, sym, _∙_, ap}
-use mathlib.Core.Bool.{Bool, true, false, cond, _&&_}
+use mathlib.Core.Bool.{Bool, true, false, cond}
 use mathlib.Core.List.{List, [], _∷_}
 use native.Mathlib.Omega.{arith}
 use lib.Dec.{ltb}
-use lib.ListN.{length, getD, List·getD-eq-default}
-use borrow.Author.Tests.{lt-ltb, ltb-true, ltb-false}
+use lib.ListN.{length, getD}
+use borrow.Author.Tests.{lt-ltb, ltb-true}
 use Rattle.chunk.specs.declared.Range.{Range}
 use Rattle.chunk.specs.Contents.{startOf, childRange}
 use Rattle.laws.proofs.Tests.{by-test, and-left, and-right}
-use Rattle.retain.specs.Layers.{bit, countKept, listKept, hasDiff, ListsLeft}
+use Rattle.retain.specs.Layers.{bit, countKept, listKept, ListsLeft}
 use Rattle.chunk.specs.Words.{risesFrom}
 
 -- one item more, counted or not
@@ -39,12 +39,6 @@ count-most m i (suc n) =
     let ih : countKept m (suc i) n ≤ n = count-most m (suc i) n in
     by-test (m i) (λ k. simp k (omega arith)) (λ k. simp k (omega arith))
 
--- a list that has an item is there
-pub has-within : (ends : List ℕ) (i : ℕ) → hasDiff ends i ≡ true → i < length ends
-has-within ends i h =
-    by-test (ltb i (length ends)) (λ k. ltb-true _ _ k)
-    (λ k. let z : getD ends i 0 ≡ 0 = List·getD-eq-default ends 0 (ltb-false i (length ends) k) in let g : startOf ends i < getD ends i 0 = ltb-true _ _ h in absurd (omega arith))
-
 -- a count on its way: what is counted before i, with what is left, is the count of all
 pub record Counted (m : ℕ → Bool) (from to count i : ℕ) : Type 0 where
   pub within : count ≤ i
@@ -65,16 +59,6 @@ counted-bit m from to count i b w h e =
 pub counted-end : (m : ℕ → Bool) (from to count i : ℕ) → Counted m from to count i → to ≤ i → count ≡ countKept m from (to - from)
 counted-end m from to count i w h = let b = w .whole in let d = count-none m i to h in omega arith
 
--- what counts over a list's range counts over the list
-pub range-counts : (m : ℕ → Bool) (ends : List ℕ) (i : ℕ) (r : Range) (n : ℕ) → r ≡ childRange ends i → n ≡ countKept m (r .lower) (r .upper - r .lower)
-    → n ≡ countKept m (startOf ends i) (getD ends i 0 - startOf ends i)
-unfolding childRange countKept
-range-counts m ends i r n e q =
-    by-test (ltb i (length ends))
-    (λ h. simp (q, e, h))
-    (λ h. let z : getD ends i 0 ≡ 0 = List·getD-eq-default ends 0 (ltb-false i (length ends) h) in
-    let y : 0 - startOf ends i ≡ 0 = omega arith in simp (q, e, h, z, y))
-
 -- so does what counts from where the list starts
 pub start-counts : (m : ℕ → Bool) (ends : List ℕ) (i lower n : ℕ) → lower ≡ startOf ends i → n ≡ countKept m lower (getD ends i 0 - lower)
     → n ≡ countKept m (startOf ends i) (getD ends i 0 - startOf ends i)
@@ -89,10 +73,6 @@ list-left m ends i n b q e = e ∙ ap (λ (x : ℕ). bit (ltb 0 x)) q
 pub range-lower : (ends : List ℕ) (i : ℕ) (r : Range) → r ≡ childRange ends i → i < length ends → r .lower ≡ startOf ends i
 unfolding childRange
 range-lower ends i r e h = simp (e, lt-ltb i (length ends) h)
-
-pub range-upper : (ends : List ℕ) (i : ℕ) (r : Range) → r ≡ childRange ends i → i < length ends → r .upper ≡ getD ends i 0
-unfolding childRange
-range-upper ends i r e h = simp (e, lt-ltb i (length ends) h)
 
 -- ---- lists and their items together
 

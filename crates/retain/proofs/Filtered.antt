@@ -1,16 +1,16 @@
 -- The bodies of the entries that are picked, from the bodies of all, layer by layer.
-use Prim.Native.Nat.{ℕ, zero, suc, _+_, _-_, _<_, _≤_}
+use Prim.Native.Nat.{ℕ, suc, _+_, _-_, _<_, _≤_}
 use mathlib.Core.Path.{_≡_, refl, sym, _∙_, ap}
-use mathlib.Core.Bool.{Bool, true, false, not, cond, _&&_, _||_}
-use mathlib.Core.List.{List, [], _∷_, _++_, map}
+use mathlib.Core.Bool.{Bool, true, false, cond, _&&_, _||_}
+use mathlib.Core.List.{List, [], _∷_, map}
 use native.Mathlib.Omega.{arith}
 use native.Mathlib.Nat.{add-zero}
 use lib.Dec.{ltb, eqb}
-use lib.ListN.{length, length-map, getD, drop, take}
+use lib.ListN.{length, length-map, getD, drop}
 use lib.Seq.{getD-drop, drop-drop}
 use borrow.Author.Tests.{ltb-true, eqb-true, eqb-false, eq-eqb, ne-eqb, lt-ltb, le-ltb, not-true}
-use Rattle.chunk.specs.Entry.{Entry, every, rising, risingFrom, before, sameList, stands, keep}
-use Rattle.chunk.specs.Bodies.{lastsOf, endsOf, sameKey, keys, vals, times, diffs, valEnds, timeEnds, diffEnds, diffEndsFrom}
+use Rattle.chunk.specs.Entry.{Entry, every, rising, before, sameList, stands, keep}
+use Rattle.chunk.specs.Bodies.{lastsOf, endsOf, sameKey, keys, vals, times, diffs, valEnds, timeEnds, diffEndsFrom}
 use Rattle.chunk.specs.Contents.{startOf}
 use Rattle.laws.proofs.Tests.{by-test, and-left, and-right, and-both, true-not-false}
 use Rattle.laws.proofs.Order.{rising-all, rising-tail, all-rising}

@@ -1,12 +1,12 @@
 -- The theorems on the frontier of the kept times, under the words of `specs/Records.antt`.
-use Prim.Native.Nat.{ℕ, zero, suc, _+_, _<_, _≤_, _%_, _^_}
+use Prim.Native.Nat.{ℕ, zero, suc, _<_, _≤_}
 use mathlib.Core.Path.{_≡_, refl, sym, _∙_, ap}
-use mathlib.Core.Bool.{Bool, true, false, not, cond, _&&_, _||_}
+use mathlib.Core.Bool.{Bool, true, false, not, _&&_, _||_}
 use mathlib.Core.List.{List, [], _∷_}
 use native.Mathlib.Omega.{arith}
-use lib.Dec.{ltb, leb, eqb}
+use lib.Dec.{ltb, eqb}
 use lib.ListN.{length}
-use borrow.Author.Tests.{ltb-true, ltb-false, eqb-true, eqb-false, lt-ltb, le-ltb, eq-eqb, not-true}
+use borrow.Author.Tests.{ltb-true, ltb-false, eqb-true, le-ltb, eq-eqb, not-true}
 use Rattle.chunk.specs.Entry.{tick, keep, every}
 use Rattle.chunk.specs.Time.{atOrBelow}
 use Rattle.laws.proofs.Tests.{by-test, and-left, and-right, and-both, true-not-false}

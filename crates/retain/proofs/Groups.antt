@@ -1,14 +1,13 @@
 -- Lists closed where the next entry starts another, once entries are filtered: the nodes that are left are those of the filtered entries.
-use Prim.Native.Nat.{ℕ, zero, suc, _+_, _-_, _<_, _≤_}
+use Prim.Native.Nat.{ℕ, suc, _+_, _-_, _<_}
 use mathlib.Core.Path.{_≡_, refl, sym, _∙_, ap}
-use mathlib.Core.Bool.{Bool, true, false, not, cond, _&&_, _||_}
-use mathlib.Core.List.{List, [], _∷_, _++_, map}
+use mathlib.Core.Bool.{Bool, true, false, not, cond, _||_}
+use mathlib.Core.List.{List, [], _∷_, map}
 use native.Mathlib.Omega.{arith}
-use native.Mathlib.Nat.{add-suc, add-zero, sub-self}
-use lib.Dec.{ltb, eqb}
-use lib.ListN.{length}
+use native.Mathlib.Nat.{add-zero, sub-self}
+use lib.Dec.{ltb}
 use borrow.Author.Tests.{lt-ltb, not-true}
-use Rattle.chunk.specs.Entry.{Entry, every, rising, risingFrom, before}
+use Rattle.chunk.specs.Entry.{Entry, every, rising, before}
 use Rattle.chunk.specs.Bodies.{lastsOf, endsOf}
 use Rattle.laws.proofs.Tests.{by-test, and-left, and-right, and-both}
 use Rattle.laws.proofs.Order.{rising-all, rising-tail}

@@ -1,18 +1,17 @@
 -- What is kept and what is not: the totals at each position add up, and what is cut of a rising list of standing entries is one.
 use Prim.Native.Nat.{ℕ, zero, suc, _+_}
 use mathlib.Core.Path.{_≡_, refl, sym, _∙_, ap}
-use mathlib.Core.Bool.{Bool, true, false, not, cond, _&&_, _||_}
+use mathlib.Core.Bool.{Bool, true, not, _&&_}
 use mathlib.Core.List.{List, [], _∷_, _++_}
 use native.Mathlib.Omega.{arith}
-use native.Mathlib.Nat.{add-suc}
 use lib.Dec.{eqb}
 use borrow.Author.Tests.{eqb-true}
-use lib.IntN.{ℤ, pos, _+ℤ_, +ℤ-assoc, +ℤ-comm, +ℤ-idl, +ℤ-idr}
+use lib.IntN.{ℤ, _+ℤ_, +ℤ-assoc, +ℤ-comm, +ℤ-idl}
 use lib.ListN.{length, take, drop, take-append-drop}
-use Rattle.chunk.specs.Entry.{Entry, keep, every, stands, change, rising, risingFrom, before}
+use Rattle.chunk.specs.Entry.{Entry, keep, every, stands, change, rising, before}
 use Rattle.chunk.specs.Sums.{total}
 use Rattle.laws.proofs.Tests.{by-test, and-left, and-right, and-both}
-use Rattle.laws.proofs.Order.{keep-rising, rising-tail, rising-all, all-rising}
+use Rattle.laws.proofs.Order.{rising-tail, rising-all, all-rising}
 use Rattle.retain.specs.Extract.{keptOf, shippedOf}
 use Rattle.retain.specs.Frontier.{isOpen}
 use Rattle.retain.specs.Records.{EachOnce, SplitJoins}

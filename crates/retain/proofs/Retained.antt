@@ -6,8 +6,6 @@ use mathlib.Core.List.{List, [], _∷_, _++_, map, append-assoc}
 use native.Mathlib.Omega.{arith}
 use lib.Dec.{ltb, eqb}
 use lib.ListN.{length, length-map, getD}
-use mir.Val.{Fits}
-use mir.Syntax.{w64}
 use Rattle.chunk.specs.Entry.{Entry, every, rising, stands, keep}
 use Rattle.chunk.specs.Bodies.{keys, vals, times, diffs, valEnds, timeEnds, diffEnds, chunkOf}
 use Rattle.chunk.specs.Words.{wellFormed, settled, entries, keyBody, valEndBody, valBody, timeEndBody, timeBody, diffEndBody, diffBody, nk, nv, nt, nd, limit, tableSize, endsRise, endsStep, risesFrom, size}
@@ -94,21 +92,6 @@ step-at low (e ∷ ends) top (suc i) h k = step-at e ends top i (and-right (eqb 
 ends-step : (ends : List ℕ) (top : ℕ) → endsStep 0 ends top ≡ true → EndsStep ends
 ends-step ends top h zero k = step-at 0 ends top 0 h k
 ends-step ends top h (suc i) k = step-at 0 ends top (suc i) h k
-
--- the places of the bodies rise within so many words, and are few
-pub record Cuts (found : Contents) (n : ℕ) : Type 0 where
-  pub keys : found .«keys_at» ≤ found .«val_ends_at»
-  pub valEnds : found .«val_ends_at» ≤ found .«vals_at»
-  pub vals : found .«vals_at» ≤ found .«time_ends_at»
-  pub timeEnds : found .«time_ends_at» ≤ found .«times_at»
-  pub times : found .«times_at» ≤ found .«diff_ends_at»
-  pub diffEnds : found .«diff_ends_at» ≤ found .«diffs_at»
-  pub diffs : found .«diffs_at» ≤ found .size
-  pub whole : found .size ≤ n
-  pub small : found .«diffs_at» < 16777216
-
-pub scaled : (a d : ℕ) → a ≤ d → d < 16777216 → Fits w64 (a * 8)
-scaled a d h k = omega arith
 
 module _ (w : List ℕ) (f : wellFormed w ≡ true) (leaf : ℕ → Bool) where
   abbrev es : List Entry
@@ -253,24 +236,6 @@ module _ (w : List ℕ) (f : wellFormed w ≡ true) (leaf : ℕ → Bool) where
 
   pub vals-few : nv w ≤ nt w
   vals-few = let a = rise-count 0 (timeEndBody w) (nt w) (parts w f .timeEndsRise) in let b = length-time-ends (contentsOf w) w its-place in omega arith
-
-  -- where the words are cut
-  pub its-cuts : (found : Contents) → Placed found w → Cuts found (length w)
-  its-cuts found p =
-      let k = keys-few in
-      let v = vals-few in
-      let t : nt w ≤ limit = leb-true _ _ (parts w f .few) in
-      record {
-        keys = omega (arith, p .keysAt, p .valEndsAt);
-        valEnds = omega (arith, p .valEndsAt, p .valsAt);
-        vals = omega (arith, p .valsAt, p .timeEndsAt);
-        timeEnds = omega (arith, p .timeEndsAt, p .timesAt);
-        times = omega (arith, p .timesAt, p .diffEndsAt);
-        diffEnds = omega (arith, p .diffEndsAt, p .diffsAt);
-        diffs = omega (arith, p .diffsAt, p .sized);
-        whole = omega (arith, p .sized, p .within);
-        small = omega (arith, p .diffsAt);
-      }
 
   pub its-left : (k v t room : ℕ) → ListsLeft valueStays (valEndBody w) k v → t ≡ length fs → size w ≤ room
       → Left timeStays (keyBody w) (valEndBody w) (valBody w) (timeEndBody w) (timeBody w) k v t × (tableSize + 2 * k + 2 * v + 2 * t + t ≤ room)

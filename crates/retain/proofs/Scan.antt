@@ -1,21 +1,20 @@
 -- One look over the times after the other: what each finds, and that the corners found are the least of the open times.
-use Prim.Native.Nat.{ℕ, zero, suc, _+_, _-_, _*_, _<_, _≤_, _/_, _%_, _^_}
+use Prim.Native.Nat.{ℕ, suc, _+_, _-_, _<_, _≤_, _^_}
 use mathlib.Core.Path.{_≡_, refl, sym, _∙_, ap}
-use mathlib.Core.Bool.{Bool, true, false, not, cond, _&&_, _||_}
+use mathlib.Core.Bool.{Bool, true, false, _&&_}
 use mathlib.Core.List.{List, [], _∷_, _++_, append-assoc, append-nil}
 use native.Mathlib.Omega.{arith}
 use lib.Dec.{ltb, leb, eqb}
 use lib.ListN.{length, take, drop, set, replicate, length-append, take-append-drop, length-set}
 use lib.Seq.{take-suc-set, drop-set-lt, drop-drop, length-take-le}
-use borrow.Author.Tests.{ltb-true, ltb-false, leb-true, leb-false, eqb-true, eqb-false, lt-ltb, le-ltb, le-leb, lt-leb, eq-eqb, ne-eqb, not-true, not-false}
-use Rattle.chunk.specs.Entry.{ignition, tick, keep, every}
+use borrow.Author.Tests.{ltb-true, ltb-false, eqb-true, eqb-false, lt-ltb, le-leb, lt-leb}
+use Rattle.chunk.specs.Entry.{tick, keep}
 use Rattle.laws.proofs.Tests.{by-test, and-left, and-right, and-both, and-false, true-not-false}
 use Rattle.retain.specs.declared.Least.{Least}
 use Rattle.retain.specs.declared.Corners.{Corners}
-use Rattle.retain.specs.declared.Frontier.{Frontier}
 use Rattle.retain.specs.Frontier.{any, isOpen, leastOf, most, places}
-use Rattle.retain.specs.Found.{leastFrom, betterThan, frontierWith, cornersOf, cornersAs}
-use Rattle.retain.proofs.Alone.{has, has-keep, least-cons, lower}
+use Rattle.retain.specs.Found.{leastFrom, betterThan, cornersOf, cornersAs}
+use Rattle.retain.proofs.Alone.{has, has-keep, least-cons}
 
 module _ (upper : List ℕ) (limit : ℕ) where
   -- the open times with a tick below the limit

@@ -2,16 +2,16 @@
 use Prim.Native.Nat.{ℕ, _-_, _≤_}
 use mathlib.Core.Path.{_≡_, refl, sym, _∙_, ap}
 use mathlib.Core.Bool.{Bool, true}
-use mathlib.Core.List.{List, [], _∷_, map, append-assoc}
+use mathlib.Core.List.{List, map, append-assoc}
 use native.Mathlib.Omega.{arith}
-use lib.ListN.{length, take, drop, length-map, length-drop}
+use lib.ListN.{length, drop, length-map}
 use borrow.Author.Tests.{leb-true, eqb-true}
 use Rattle.chunk.specs.declared.Contents.{Contents}
 use Rattle.chunk.specs.declared.Range.{Range}
 use Rattle.chunk.specs.Contents.{Placed, startOf}
 use Rattle.chunk.specs.Entry.{Entry, every, stands, rising, keep}
 use Rattle.chunk.specs.Bodies.{keys, vals, times, diffs, valEnds, timeEnds, diffEnds, chunkOf}
-use Rattle.chunk.specs.Words.{wellFormed, settled, entries, keyBody, valEndBody, valBody, timeEndBody, timeBody, diffEndBody, diffBody, nv, nt, nd, size, limit}
+use Rattle.chunk.specs.Words.{wellFormed, settled, entries, keyBody, valEndBody, valBody, timeEndBody, timeBody, diffBody, nv, nt, nd, size, limit}
 use Rattle.chunk.proofs.Placed.{cut-keys, cut-val-ends, cut-vals, cut-time-ends, cut-times, cut-diffs, length-keys, length-val-ends, length-vals, length-time-ends, length-times, length-diffs}
 use Rattle.laws.proofs.OneChunk.{front-is-chunk, settled-stands}
 use Rattle.laws.proofs.Frame.{parts}

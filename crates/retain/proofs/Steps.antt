@@ -1,23 +1,21 @@
 -- Counting the times that stay by their ends: so many more diffs end there.
 use Prim.Native.Nat.{ℕ, zero, suc, _+_, _-_, _*_, _<_, _≤_}
-use mathlib.Core.Path.{_≡_, refl, sym, _∙_, ap}
-use mathlib.Core.Bool.{Bool, true, false, cond, not, _&&_}
-use mathlib.Core.List.{List, [], _∷_}
+use mathlib.Core.Path.{_≡_, refl, _∙_, ap}
+use mathlib.Core.Bool.{Bool, true, not, _&&_}
+use mathlib.Core.List.{List, _∷_}
 use native.Mathlib.Omega.{arith}
-use lib.Dec.{ltb, leb}
+use lib.Dec.{ltb}
 use lib.ListN.{length, take, drop, getD}
 use lib.Seq.{drop-cons}
-use borrow.Author.Tests.{ltb-true, ltb-false, leb-true, leb-false}
-use Rattle.chunk.specs.declared.Range.{Range}
-use Rattle.chunk.specs.Contents.{startOf, childRange}
+use borrow.Author.Tests.{ltb-true, ltb-false}
+use Rattle.chunk.specs.Contents.{startOf}
 use Rattle.chunk.specs.Entry.{keep}
 use Rattle.laws.proofs.Tests.{by-test}
-use Rattle.retain.specs.declared.Keep.{Keep}
-use Rattle.retain.specs.declared.Keep.the-variants.{All, Open, Shut}
+use Rattle.retain.specs.declared.Keep.the-variants.{Open, Shut}
 use Rattle.retain.specs.Frontier.{isOpen}
 use Rattle.retain.specs.Keep.{timeKept}
 use Rattle.retain.specs.Layers.{bit, countKept, hasDiff, EndsStep}
-use Rattle.retain.proofs.Counts.{count-most, count-add, range-lower, range-upper, has-within}
+use Rattle.retain.proofs.Counts.{count-most}
 
 -- the same test, the same count
 pub count-same : (m p : ℕ → Bool) (i n : ℕ) → ((k : ℕ) → i ≤ k → k < i + n → m k ≡ p k) → countKept m i n ≡ countKept p i n
@@ -27,12 +25,6 @@ count-same m p i (suc n) f =
     let ih : countKept m (suc i) n ≡ countKept p (suc i) n = count-same m p (suc i) n (λ k a b. f k (omega arith) (omega arith)) in
     let e : m i ≡ p i = f i (omega arith) (omega arith) in
     rw (e, ih) refl
-
--- none counts where none passes
-pub count-nothing : (m : ℕ → Bool) (i n : ℕ) → ((k : ℕ) → i ≤ k → k < i + n → m k ≡ false) → countKept m i n ≡ 0
-unfolding countKept
-count-nothing m i zero f = refl
-count-nothing m i (suc n) f = let e : m i ≡ false = f i (omega arith) (omega arith) in simp e (count-nothing m (suc i) n (λ k a b. f k (omega arith) (omega arith)))
 
 -- all pass where as many count
 pub count-full : (m : ℕ → Bool) (i n : ℕ) → countKept m i n ≡ n → (k : ℕ) → i ≤ k → k < i + n → m k ≡ true
@@ -79,19 +71,12 @@ open-count p times i (suc n) h =
     ∙ by-test (p (getD times i 0)) (λ k. simp (k, ih)) (λ k. simp (k, ih))
 
 module _ (times corners diffEnds : List ℕ) where
-  -- of a filter
-  pub count-all : (i n : ℕ) → countKept (hasDiff diffEnds) i n ≡ countKept (timeKept All times corners diffEnds) i n
-  count-all i n = count-same (hasDiff diffEnds) (timeKept All times corners diffEnds) i n (λ k a b. by-test (hasDiff diffEnds k) (λ q. simp q) (λ q. simp q))
-
   -- of an extract, where each has a diff
   module _ (i n : ℕ) (h : i + n ≤ length times) (full : (k : ℕ) → i ≤ k → k < i + n → hasDiff diffEnds k ≡ true) where
     pub count-open : length (keep (isOpen corners) (take n (drop i times))) ≡ countKept (timeKept Open times corners diffEnds) i n
     count-open =
         open-count (isOpen corners) times i n h
         ∙ count-same (λ (k : ℕ). isOpen corners (getD times k 0)) (timeKept Open times corners diffEnds) i n (λ k a b. let q : hasDiff diffEnds k ≡ true = full k a b in simp q)
-
-    pub open-most : length (keep (isOpen corners) (take n (drop i times))) ≤ n
-    open-most = let o = open-count (isOpen corners) times i n h in let m = count-most (λ (k : ℕ). isOpen corners (getD times k 0)) i n in omega arith
 
     pub count-shut : n - length (keep (isOpen corners) (take n (drop i times))) ≡ countKept (timeKept Shut times corners diffEnds) i n
     count-shut =
@@ -103,11 +88,6 @@ module _ (times corners diffEnds : List ℕ) where
         omega arith
 
 -- ---- the same as code has it
-
-pub diffs-between : (ends : List ℕ) (from to : ℕ) → EndsStep ends → from ≤ to → to ≤ length ends → countKept (hasDiff ends) from (to - from) + startOf ends from ≡ startOf ends to
-diffs-between ends from to s h k =
-    let z : from + (to - from) ≡ to = omega arith in
-    count-diffs ends from (to - from) s (omega arith) ∙ ap (startOf ends) z
 
 -- a list starts where the one before it ends
 pub start-before : (ends : List ℕ) (i : ℕ) → (i ≡ 0 → ⊥) → startOf ends i ≡ getD ends (i - 1) 0
@@ -126,39 +106,6 @@ end-bit ends i lower s h lo =
           (λ k. let l : getD ends i 0 ≤ startOf ends i = ltb-false _ _ k in simp k (omega arith)),
     )
 
-pub list-bit : (ends : List ℕ) (i : ℕ) (r : Range) → EndsStep ends → i < length ends → r ≡ childRange ends i → (r .lower ≤ r .upper) × (r .upper - r .lower ≡ bit (hasDiff ends i))
-unfolding childRange
-list-bit ends i r s h e =
-    rw (range-upper ends i r e h) (end-bit ends i (r .lower) s h (range-lower ends i r e h))
-
 pub bit-and : (a b : Bool) → bit a * bit b ≡ bit (a && b)
 unfolding bit
 bit-and a b = by-test a (λ k. simp k (omega arith)) (λ k. simp k (omega arith))
-
--- past the last end none has a diff
-pub count-top : (keep : Keep) (times corners diffEnds : List ℕ) (from to : ℕ) → length diffEnds ≤ to
-    → countKept (timeKept keep times corners diffEnds) from (to - from) ≡ countKept (timeKept keep times corners diffEnds) from (length diffEnds - from)
-count-top keep times corners diffEnds from to h =
-    let m : ℕ → Bool = timeKept keep times corners diffEnds in
-    let out : (k : ℕ) → length diffEnds ≤ k → m k ≡ false = λ k l.
-    by-test (hasDiff diffEnds k) (λ q. let i = has-within diffEnds k q in absurd (omega arith)) (λ q. simp q) in
-    by-test (leb (length diffEnds) from)
-    (λ q. let l : length diffEnds ≤ from = leb-true _ _ q in
-    count-nothing m from (to - from) (λ k a b. out k (omega arith)) ∙ sym (count-nothing m from (length diffEnds - from) (λ k a b. out k (omega arith))))
-    (λ q. let l : from < length diffEnds = leb-false _ _ q in
-    let z : to - from ≡ (length diffEnds - from) + (to - length diffEnds) = omega arith in
-    let y = count-nothing m (from + (length diffEnds - from)) (to - length diffEnds) (λ k a b. out k (omega arith)) in
-    ap (countKept m from) z ∙ count-add m from (length diffEnds - from) (to - length diffEnds) ∙ omega arith)
-
--- the end of what is looked at: the last end, where it comes sooner
-pub record Topped (keep : Keep) (times corners diffEnds : List ℕ) (from to top : ℕ) : Type 0 where
-  pub within : top ≤ length diffEnds
-  pub counts : countKept (timeKept keep times corners diffEnds) from (top - from) ≡ countKept (timeKept keep times corners diffEnds) from (to - from)
-
-pub topped-past : (keep : Keep) (times corners diffEnds : List ℕ) (from to top : ℕ) → length diffEnds < to → top ≡ length diffEnds → Topped keep times corners diffEnds from to top
-topped-past keep times corners diffEnds from to top h e =
-    record { within = omega arith; counts = ap (λ (k : ℕ). countKept (timeKept keep times corners diffEnds) from (k - from)) e ∙ sym (count-top keep times corners diffEnds from to (omega arith)) }
-
-pub topped-here : (keep : Keep) (times corners diffEnds : List ℕ) (from to top : ℕ) → to ≤ length diffEnds → top ≡ to → Topped keep times corners diffEnds from to top
-topped-here keep times corners diffEnds from to top h e =
-    record { within = omega arith; counts = ap (λ (k : ℕ). countKept (timeKept keep times corners diffEnds) from (k - from)) e }

@@ -1,13 +1,12 @@
 -- Keys, values and times written in one walk: each in its own part of the output.
-use Prim.Native.Nat.{ℕ, suc, _+_, _-_, _<_, _≤_}
+use Prim.Native.Nat.{ℕ, _+_, _-_, _<_, _≤_}
 use mathlib.Core.Path.{_≡_, refl, sym, _∙_, ap}
-use mathlib.Core.Bool.{Bool, true}
+use mathlib.Core.Bool.{Bool}
 use mathlib.Core.List.{List, _++_}
 use native.Mathlib.Omega.{arith}
 use lib.Dec.{ltb}
 use lib.ListN.{length, getD, set, take, drop, length-set, length-drop, length-append, take-append-drop}
 use lib.Seq.{sets, take-take, drop-drop, take-add, take-set-le, take-set-lt, drop-set-lt, drop-set-add, drop-at, length-take-le}
-use Rattle.chunk.specs.Words.{risesFrom}
 use Rattle.chunk.specs.Contents.{startOf}
 use Rattle.retain.specs.Layers.{countKept, countUp, nodesOut, leavesOut, listKept, bit, Over, Bodies, Left, bodiesOut}
 use Rattle.retain.specs.Onward.{Writing, Leaving, Woven}

@@ -1,8 +1,8 @@
 -- Extract (document 01): the open records kept, the others shipped.
-use Prim.Native.Nat.{ℕ, zero, suc}
-use mathlib.Core.Bool.{Bool, true, false, not, cond, _&&_, _||_}
-use mathlib.Core.List.{List, [], _∷_, map}
-use lib.Dec.{leb, ltb, eqb}
+use Prim.Native.Nat.{ℕ}
+use mathlib.Core.Bool.{not, cond}
+use mathlib.Core.List.{List, [], _∷_}
+use lib.Dec.{ltb, eqb}
 use lib.ListN.{length, take}
 use Rattle.chunk.specs.Entry.{Entry, keep}
 use Rattle.chunk.specs.Bodies.{times}

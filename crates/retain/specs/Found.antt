@@ -6,7 +6,7 @@ use mathlib.Core.Path.{_≡_}
 use mathlib.Core.Bool.{Bool, true, false, not, cond, _&&_, _||_}
 use mathlib.Core.List.{List, [], _∷_}
 use lib.Dec.{ltb, leb}
-use lib.ListN.{length, take, replicate, getD}
+use lib.ListN.{length, take, getD}
 use Rattle.chunk.specs.Entry.{ignition, tick, keep}
 use Rattle.chunk.specs.Time.{atOrBelow}
 use Rattle.retain.specs.declared.Frontier.{Frontier}

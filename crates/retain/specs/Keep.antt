@@ -1,7 +1,7 @@
 -- Which records stay (document 01): of a filter all that have a diff; of an extract the open ones ("a time is open if some corner of the
 -- frontier is at or below it in ignition AND in tick"), or the others.
 use Prim.Native.Nat.{ℕ}
-use mathlib.Core.Bool.{Bool, true, false, not, _&&_}
+use mathlib.Core.Bool.{Bool, true, not, _&&_}
 use mathlib.Core.List.{List}
 use lib.ListN.{getD}
 use Rattle.chunk.specs.Entry.{Entry}

@@ -1,12 +1,12 @@
 -- The core of filter, split and extract (document 01: "Times without a diff go, then values and keys left without children"):
 -- the non-empty lists once items are filtered, layer above layer. Which items are filtered out is a test on their index.
-use Prim.Native.Nat.{ℕ, zero, suc, _+_, _-_, _*_, _<_, _≤_}
+use Prim.Native.Nat.{ℕ, zero, suc, _+_, _-_, _<_, _≤_}
 use mathlib.Core.Path.{_≡_}
-use mathlib.Core.Bool.{Bool, true, false, cond, not, _&&_}
+use mathlib.Core.Bool.{Bool, true, cond}
 use mathlib.Core.List.{List, [], _∷_, _++_}
-use lib.Dec.{leb, ltb}
+use lib.Dec.{ltb}
 use lib.ListN.{length, getD}
-use Rattle.chunk.specs.Words.{risesFrom, limit, tableSize}
+use Rattle.chunk.specs.Words.{risesFrom, limit}
 use Rattle.chunk.specs.Contents.{startOf, tableOf}
 use Rattle.retain.specs.Frontier.{ordered}
 

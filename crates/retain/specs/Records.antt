@@ -3,13 +3,13 @@
 -- Each statement is a type here, and a theorem under the same words in `proofs/`.
 use Prim.Native.Nat.{ℕ, _+_}
 use mathlib.Core.Path.{_≡_}
-use mathlib.Core.Bool.{Bool, true, false, not, _&&_, _||_}
-use mathlib.Core.List.{List, [], _∷_, _++_}
+use mathlib.Core.Bool.{Bool, true, not, _||_}
+use mathlib.Core.List.{List, _++_}
 use lib.Dec.{eqb}
 use lib.ListN.{length, take, drop}
 use Rattle.chunk.specs.Entry.{Entry, keep, every}
 use Rattle.chunk.specs.Time.{atOrBelow}
-use Rattle.retain.specs.Frontier.{isOpen, leastOf, ordered}
+use Rattle.retain.specs.Frontier.{isOpen, leastOf}
 use Rattle.retain.specs.Extract.{keptOf, shippedOf}
 
 -- kept and shipped together have each record once: whatever is counted, the two counts add up to the chunk's

@@ -1,21 +1,20 @@
 -- `retain::extract` meets its contract: each refusal comes in its turn and leaves both outputs, and the rest is what the corners part.
-use Prim.Native.Nat.{ℕ, zero, suc, _<_, _≤_, _-_}
-use mathlib.Core.Path.{_≡_, refl, sym, _∙_, ap}
-use mathlib.Core.Bool.{Bool, true, false, not, _&&_, cond}
-use mathlib.Core.List.{List, []}
+use Prim.Native.Nat.{ℕ, suc, _<_, _≤_, _-_}
+use mathlib.Core.Path.{_≡_, sym, _∙_, ap}
+use mathlib.Core.Bool.{true, false}
+use mathlib.Core.List.{List}
 use native.Mathlib.Omega.{arith}
-use lib.ListN.{length, take, drop, length-map}
-use lib.Dec.{ltb, leb}
+use lib.ListN.{length, take, length-map}
+use lib.Dec.{leb}
 use borrow.Author.Tests.{lt-ltb, le-ltb, not-true, not-false, leb-true}
-use Rattle.chunk.specs.Entry.{Entry}
 use Rattle.chunk.specs.Words.{wellFormed, settled, entries, size}
 use Rattle.chunk.specs.Refusal.{first, written}
 use Rattle.laws.proofs.Tests.{and-left, and-right}
 use Rattle.retain.specs.declared.Extracted.{Extracted}
 use Rattle.retain.specs.Frontier.{sound, ordered, most}
-use Rattle.retain.specs.Extract.{extractNumber, keptOf, shippedOf, frontierOf, keptOut, shippedOut}
+use Rattle.retain.specs.Extract.{extractNumber, keptOf, shippedOf, keptOut, shippedOut}
 use Rattle.retain.specs.Answer.{Extraction, Parted, refusedBy, extractedAs, tooMany}
-use Rattle.retain.proofs.Checked.{Passed, passed, Failed, failed}
+use Rattle.retain.proofs.Checked.{passed, failed}
 use borrow.Author.Needs.{needs}
 use Rattle.retain.proofs.extract.Statement.{statement}
 use Rattle.retain.proofs.extract.Tie as tie

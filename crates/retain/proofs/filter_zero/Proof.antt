@@ -1,6 +1,6 @@
 -- `retain::filter_zero` meets its contract: each refusal leaves the output, and what is retained is what stands.
 use Prim.Native.Nat.{ℕ, _<_, _≤_}
-use mathlib.Core.Path.{_≡_, refl, sym, _∙_, ap}
+use mathlib.Core.Path.{_≡_, _∙_, ap}
 use mathlib.Core.Bool.{true, false}
 use mathlib.Core.List.{List, []}
 use native.Mathlib.Omega.{arith}
@@ -8,14 +8,10 @@ use lib.ListN.{length}
 use borrow.Author.Tests.{lt-ltb, le-ltb}
 use Rattle.chunk.specs.Entry.{Entry, keep, stands}
 use Rattle.chunk.specs.Bodies.{chunkOf}
-use Rattle.chunk.specs.Words.{wellFormed, entries, size, over, nd}
+use Rattle.chunk.specs.Words.{wellFormed, entries, size, over}
 use Rattle.chunk.specs.Refusal.{first, written}
 use Rattle.retain.specs.Cut.{filterNumber, filterOut}
-use Rattle.retain.specs.declared.Keep.the-variants.{All}
-use Rattle.retain.specs.Keep.{retainedOf}
-use Rattle.retain.specs.Frontier.{ordered}
 use Rattle.retain.proofs.Checked.{passed, failed}
-use Rattle.retain.proofs.Retained.{stand-count}
 use Rattle.retain.proofs.Picks.{retained-all}
 use borrow.Author.Needs.{needs}
 use borrow.Author.Needs.{needs}

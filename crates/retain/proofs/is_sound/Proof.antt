@@ -1,11 +1,10 @@
 -- `retain::is_sound` meets its contract: the corners are the first `count` of the 128 places.
 use Prim.Native.Nat.{ℕ, _<_, _≤_, _-_}
-use mathlib.Core.Path.{_≡_, refl, sym, _∙_, ap}
-use mathlib.Core.Bool.{Bool, true, false, _&&_}
+use mathlib.Core.Path.{_≡_, sym, _∙_}
+use mathlib.Core.Bool.{Bool, false}
 use mathlib.Core.List.{List}
 use native.Mathlib.Omega.{arith}
-use lib.ListN.{length, take, drop, length-map}
-use lib.Dec.{leb}
+use lib.ListN.{length, take, length-map}
 use borrow.Author.Tests.{le-leb, lt-leb}
 use Rattle.retain.specs.Frontier.{sound, ordered}
 use borrow.Author.Needs.{needs}

@@ -1,6 +1,6 @@
 -- `retain::refused` meets its contract.
 use Prim.Native.Nat.{ℕ}
-use mathlib.Core.Path.{_≡_, ap}
+use mathlib.Core.Path.{ap}
 use Rattle.retain.specs.declared.Frontier.{Frontier}
 use Rattle.retain.specs.declared.Extracted.{Extracted}
 use Rattle.retain.specs.declared.Verdict.the-variants.{AllKept}

@@ -1,6 +1,6 @@
 -- `retain::retain_both` meets its contract: by how many are open.
 use Prim.Native.Nat.{ℕ, _-_}
-use mathlib.Core.Path.{_≡_, sym, _∙_, ap}
+use mathlib.Core.Path.{_≡_, sym, _∙_}
 use native.Mathlib.Omega.{arith}
 use Rattle.retain.specs.declared.Keep.the-variants.{Open, Shut}
 use Rattle.retain.proofs.Whole.{front-length, whole-chunk, no-chunk}

@@ -1,7 +1,6 @@
 -- `retain::write_bodies` meets its contract: the layers stand behind the table.
 use Prim.Native.Nat.{ℕ, _+_}
-use mathlib.Core.Path.{_≡_, sym, _∙_, ap}
-use native.Mathlib.Omega.{arith}
+use mathlib.Core.Path.{sym, _∙_, ap}
 use Rattle.chunk.specs.Contents.{tableOf}
 use Rattle.retain.proofs.Parts.{out-cuts, up-to, within-as, whole-size, table-front, put-one, part-length}
 use Rattle.retain.proofs.Weaving.{length-bodiesOut}

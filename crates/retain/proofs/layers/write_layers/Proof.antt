@@ -1,6 +1,6 @@
 -- `retain::layers::write_layers` meets its contract: what is written of the keys, the values and the times, with what is left to write, is the whole.
-use Prim.Native.Nat.{ℕ, _+_, _-_, _<_, _≤_}
-use mathlib.Core.Path.{_≡_, refl, sym, _∙_, ap}
+use Prim.Native.Nat.{_-_, _≤_}
+use mathlib.Core.Path.{refl, sym, _∙_}
 use native.Mathlib.Omega.{arith}
 use lib.ListN.{length, length-set}
 use Rattle.retain.specs.Layers.{Bodies}

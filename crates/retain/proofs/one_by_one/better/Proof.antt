@@ -1,6 +1,5 @@
 -- `retain::better` meets its contract, test by test.
-use mathlib.Core.Path.{_≡_, refl, sym, _∙_, ap}
-use mathlib.Core.Bool.{Bool, true, false}
+use mathlib.Core.Path.{_∙_}
 use Rattle.laws.proofs.Tests.{and-false}
 use borrow.Author.Tests.{lt-ltb, le-ltb, not-true, not-false}
 use borrow.Author.Needs.{needs}

@@ -1,6 +1,6 @@
 -- `retain::least_open` meets its contract: from each time on, the best of those left is the best of all.
-use Prim.Native.Nat.{ℕ, zero, suc, _+_, _-_, _<_, _≤_}
-use mathlib.Core.Path.{_≡_, refl, sym, _∙_, ap}
+use Prim.Native.Nat.{ℕ, _+_, _-_, _<_, _≤_}
+use mathlib.Core.Path.{_≡_, sym, _∙_}
 use mathlib.Core.Bool.{Bool, true, false, cond}
 use mathlib.Core.List.{List}
 use mathlib.Core.Logic.{⊎-elim}
@@ -8,7 +8,6 @@ use native.Mathlib.Omega.{arith}
 use native.Mathlib.Numerals.{add-one}
 use lib.ListN.{length, getD, drop, drop-of-length-le}
 use lib.Seq.{drop-cons}
-use Rattle.retain.specs.declared.Least.{Least}
 use Rattle.retain.specs.Found.{leastFrom, betterThan}
 use borrow.Author.Needs.{needs}
 use Rattle.retain.proofs.one_by_one.least_open.Statement.{statement}

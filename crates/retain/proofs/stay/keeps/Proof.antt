@@ -2,7 +2,6 @@
 use Prim.Native.Nat.{ℕ}
 use mathlib.Core.Path.{_≡_, sym, _∙_, ap}
 use mathlib.Core.List.{List}
-use native.Mathlib.Omega.{arith}
 use Rattle.retain.specs.declared.Keep.{Keep}
 use Rattle.retain.specs.Keep.{keepsAt}
 use Rattle.retain.specs.Layers.{bit}

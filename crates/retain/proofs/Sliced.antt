@@ -19,7 +19,7 @@ use Rattle.retain.specs.Layers.{countUp, listKept, pick}
 use Rattle.retain.specs.Ranges.{part, within, Span, cutEnds, Layered, Ranged, rangesOut}
 use Rattle.retain.proofs.Filtered.{picked-keys, picked-valEnds, picked-vals, picked-timeEnds, diffEnds-up, keep-all}
 use Rattle.retain.proofs.Records.{take-every, drop-every}
-use Rattle.retain.proofs.Retained.{keys-in, valEnds-in, vals-in, timeEnds-in, times-in, diffs-in, val-ends-rise, time-ends-rise, rise-last, keys-few, vals-few, keyPart, valEndPart, valPart, timeEndPart, timePart, diffPart}
+use Rattle.retain.proofs.Retained.{keys-in, valEnds-in, vals-in, timeEnds-in, times-in, diffs-in, val-ends-rise, time-ends-rise, its-bodies, keys-few, vals-few, keyPart, valEndPart, valPart, timeEndPart, timePart, diffPart}
 use Rattle.retain.proofs.Spans.{pick-part, part-map, length-part, list-within, range-items, range-ends}
 
 module _ (w : List ℕ) (f : wellFormed w ≡ true) (found : Contents) (p : Placed found w) (s : settled w ≡ true) where
@@ -28,23 +28,18 @@ module _ (w : List ℕ) (f : wellFormed w ≡ true) (found : Contents) (p : Plac
   its-layers =
       let all : ℕ → Bool = λ i. true in
       let lk = length-keys found w p in
-      let lke = length-val-ends found w p in
       let lv = length-vals found w p in
-      let lve = length-time-ends found w p in
       let lt = length-times found w p in
       let ld = length-diffs found w p in
       let e : nd w ≡ nt w = eqb-true _ _ s in
       let few : nt w ≤ limit = leb-true _ _ (parts w f .few) in
-      let a = keys-few w f all in
-      let b = vals-few w f all in
+      let fk = keys-few w f all in
+      let fv = vals-few w f all in
+      let b = its-bodies w f all in
       record {
-        keyRows = lk ∙ sym lke;
-        valRows = lv ∙ sym lve;
+        overVals = b .overVals;
+        overTimes = b .overTimes;
         timeRows = ld ∙ e ∙ sym lt;
-        valEndsRise = val-ends-rise w f all;
-        timeEndsRise = time-ends-rise w f all;
-        valsEnd = rise-last (valEndBody w) (nv w) (parts w f .valEndsRise) ∙ sym lv;
-        timesEnd = rise-last (timeEndBody w) (nt w) (parts w f .timeEndsRise) ∙ sym lt;
         fewKeys = omega arith;
         fewVals = omega arith;
         fewTimes = omega arith;
@@ -80,27 +75,27 @@ module _ (w : List ℕ) (f : wellFormed w ≡ true) (found : Contents) (p : Plac
 
     -- whether a value has a time of the range
     values : (k : ℕ) → listKept timeStays (timeEndBody w) k ≡ within (vs .lower) (vs .upper) k
-    values = list-within timeStays (valBody w) (timeEndBody w) (its-layers .valRows) (its-layers .timeEndsRise) ts vs pv (λ k. refl)
+    values = list-within timeStays (valBody w) (timeEndBody w) (its-layers .overTimes .rows) (its-layers .overTimes .rises .rise) ts vs pv (λ k. refl)
 
     out-vals : vals fs ≡ part (vs .lower) (vs .upper) (valBody w)
     out-vals =
         picks vals ∙ picked-vals timeStays es rise ∙ simp (vals-in w f all, timeEnds-in w f all)
-        (range-items timeStays (valBody w) (timeEndBody w) (its-layers .valRows) (its-layers .timeEndsRise) ts vs pv (λ k. refl))
+        (range-items timeStays (valBody w) (timeEndBody w) (its-layers .overTimes .rows) (its-layers .overTimes .rises .rise) ts vs pv (λ k. refl))
 
     out-timeEnds : timeEnds fs ≡ cutEnds ts (part (vs .lower) (vs .upper) (timeEndBody w))
     out-timeEnds =
         picks timeEnds ∙ picked-timeEnds timeStays es rise ∙ simp (vals-in w f all, timeEnds-in w f all)
-        (range-ends timeStays (valBody w) (timeEndBody w) (its-layers .valRows) (its-layers .timeEndsRise) ts vs pv (λ k. refl))
+        (range-ends timeStays (valBody w) (timeEndBody w) (its-layers .overTimes .rows) (its-layers .overTimes .rises .rise) ts vs pv (λ k. refl))
 
     out-keys : keys fs ≡ part (ks .lower) (ks .upper) (keyBody w)
     out-keys =
         picks keys ∙ picked-keys timeStays es rise ∙ simp (keys-in w f all, valEnds-in w f all, timeEnds-in w f all)
-        (range-items (listKept timeStays (timeEndBody w)) (keyBody w) (valEndBody w) (its-layers .keyRows) (its-layers .valEndsRise) vs ks pk values)
+        (range-items (listKept timeStays (timeEndBody w)) (keyBody w) (valEndBody w) (its-layers .overVals .rows) (its-layers .overVals .rises .rise) vs ks pk values)
 
     out-valEnds : valEnds fs ≡ cutEnds vs (part (ks .lower) (ks .upper) (valEndBody w))
     out-valEnds =
         picks valEnds ∙ picked-valEnds timeStays es rise ∙ simp (keys-in w f all, valEnds-in w f all, timeEnds-in w f all)
-        (range-ends (listKept timeStays (timeEndBody w)) (keyBody w) (valEndBody w) (its-layers .keyRows) (its-layers .valEndsRise) vs ks pk values)
+        (range-ends (listKept timeStays (timeEndBody w)) (keyBody w) (valEndBody w) (its-layers .overVals .rows) (its-layers .overVals .rises .rise) vs ks pk values)
 
     out-times : times fs ≡ part (ts .lower) (ts .upper) (timeBody w)
     out-times = part-map (λ (e : Entry). e .time) (ts .lower) (ts .upper) es order ∙ ap (part (ts .lower) (ts .upper)) (times-in w f all)
@@ -124,8 +119,8 @@ module _ (w : List ℕ) (f : wellFormed w ≡ true) (found : Contents) (p : Plac
     pub its-range : rangesOut (keyBody w) (valEndBody w) (valBody w) (timeEndBody w) (timeBody w) (diffBody w) ks vs ts ≡ chunkOf fs
     unfolding chunkOf
     its-range =
-        let k : length (keys fs) ≡ ks .upper - ks .lower = ap length out-keys ∙ length-part (ks .lower) (ks .upper) (keyBody w) (omega (arith, pk .within, its-layers .keyRows)) in
-        let v : length (vals fs) ≡ vs .upper - vs .lower = ap length out-vals ∙ length-part (vs .lower) (vs .upper) (valBody w) (omega (arith, pv .within, its-layers .valRows)) in
+        let k : length (keys fs) ≡ ks .upper - ks .lower = ap length out-keys ∙ length-part (ks .lower) (ks .upper) (keyBody w) (omega (arith, pk .within, its-layers .overVals .rows)) in
+        let v : length (vals fs) ≡ vs .upper - vs .lower = ap length out-vals ∙ length-part (vs .lower) (vs .upper) (valBody w) (omega (arith, pv .within, its-layers .overTimes .rows)) in
         let t : length (times fs) ≡ ts .upper - ts .lower = length-map fs (λ (e : Entry). e .time) ∙ count in
         let d : length (diffs fs) ≡ ts .upper - ts .lower = length-map (keep stands fs) (λ (e : Entry). e .diff) ∙ ap length (keep-all stands fs stays) ∙ count in
         sym (simp (k, v, t, d) (simp (out-keys, out-valEnds, out-vals, out-timeEnds, out-times, out-diffEnds, out-diffs, append-assoc)))
@@ -140,10 +135,10 @@ module _ (w : List ℕ) (f : wellFormed w ≡ true) (found : Contents) (p : Plac
 
   -- a range of the times, and the values that have one of them
   pub times-within : (tr : Range) → tr .upper ≤ nt w → tr .upper ≤ startOf (timeEndPart found w) (length (timeEndPart found w))
-  times-within tr h = let e = cut-layers .timesEnd in let l = times-all in omega arith
+  times-within tr h = let e = cut-layers .overTimes .rises .last in let l = times-all in omega arith
 
   pub vals-within : (tr vr : Range) → Span (timeEndPart found w) tr vr → vr .upper ≤ startOf (valEndPart found w) (length (valEndPart found w))
-  vals-within tr vr v = let e = cut-layers .valsEnd in let l = cut-layers .valRows in let b = v .within in omega arith
+  vals-within tr vr v = let e = cut-layers .overVals .rises .last in let l = cut-layers .overTimes .rows in let b = v .within in omega arith
 
   pub cut-ranged : (kr vr tr : Range) (room : ℕ) → Span (valEndPart found w) vr kr → Span (timeEndPart found w) tr vr → tr .upper ≤ nt w → size w ≤ room
       → Ranged (keyPart found w) (valEndPart found w) (valPart found w) (timeEndPart found w) (timePart found w) kr vr tr room

@@ -317,5 +317,5 @@ pub range-cuts : {keys valEnds vals timeEnds times diffs : List ℕ} {ks vs ts :
 range-cuts {ks = ks} {vs = vs} {ts = ts} {room = room} {lay = lay} l r e =
     let a = r .keysIn .within in let b = r .valsIn .within in let d = r .timesIn in
     let fk = l .fewKeys in let fv = l .fewVals in let ft = l .fewTimes in
-    let rk = l .keyRows in let rv = l .valRows in let f = r .fits in
+    let rk = l .overVals .rows in let rv = l .overTimes .rows in let f = r .fits in
     out-cuts lay (ks .upper - ks .lower) (vs .upper - vs .lower) (ts .upper - ts .lower) room e (omega arith) (omega arith) (omega arith) (omega arith)

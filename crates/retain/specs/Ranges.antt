@@ -8,7 +8,7 @@ use lib.ListN.{length, getD, take, drop}
 use Rattle.chunk.specs.declared.Range.{Range}
 use Rattle.chunk.specs.Words.{risesFrom, limit, tableSize}
 use Rattle.chunk.specs.Contents.{startOf, tableOf}
-use Rattle.retain.specs.Layers.{countUp}
+use Rattle.retain.specs.Layers.{countUp, Over}
 
 -- the items of a range
 abbrev pub part : {A : Type 0} → ℕ → ℕ → List A → List A
@@ -42,15 +42,11 @@ cutEnds r ends = map (λ (e : ℕ). min e (r .upper) - r .lower) ends
 abbrev pub rangeOut : List ℕ → List ℕ → Range → Range → List ℕ
 rangeOut items ends below here = part (here .lower) (here .upper) items ++ cutEnds below (part (here .lower) (here .upper) ends)
 
--- six bodies that belong together: as many ends as items above them, one diff to a time, and ends that rise to the count of items below them
+-- six bodies that belong together: lists below the keys and below the values, and one diff to a time
 pub record Layered (keys valEnds vals timeEnds times diffs : List ℕ) : Type 0 where
-  pub keyRows : length keys ≡ length valEnds
-  pub valRows : length vals ≡ length timeEnds
+  pub overVals : Over keys valEnds (length vals)
+  pub overTimes : Over vals timeEnds (length times)
   pub timeRows : length diffs ≡ length times
-  pub valEndsRise : risesFrom 0 valEnds ≡ true
-  pub timeEndsRise : risesFrom 0 timeEnds ≡ true
-  pub valsEnd : startOf valEnds (length valEnds) ≡ length vals
-  pub timesEnd : startOf timeEnds (length timeEnds) ≡ length times
   pub fewKeys : length keys ≤ limit
   pub fewVals : length vals ≤ limit
   pub fewTimes : length times ≤ limit

@@ -83,13 +83,13 @@ part-diffs-end c = search needs
 span-of-requires : tie.Need-span-of-requires
 span-of-requires c κs =
     let a = c .before .before .before .before .before .before .before .before in
-    (cut-layers (a .args .words .now) (a .pre .0 .0) (a .args .found) (a .pre .0 .1 .0) (a .pre .0 .1 .1) .timeEndsRise, (a .pre .1 .0, times-within (a .args .words .now) (a .pre .0 .0) (a .args .found) (a .pre .0 .1 .0) (a .pre .0 .1 .1) (a .args .range) (a .pre .1 .1 .0)))
+    (cut-layers (a .args .words .now) (a .pre .0 .0) (a .args .found) (a .pre .0 .1 .0) (a .pre .0 .1 .1) .overTimes .rises .rise, (a .pre .1 .0, times-within (a .args .words .now) (a .pre .0 .0) (a .args .found) (a .pre .0 .1 .0) (a .pre .0 .1 .1) (a .args .range) (a .pre .1 .1 .0)))
 
 span-of-requires-2 : tie.Need-span-of-requires-2
 span-of-requires-2 c κs =
     let a = c .before .before .before .before .before .before .before .before .before in
     let v = c .span-of .ensures in
-    (cut-layers (a .args .words .now) (a .pre .0 .0) (a .args .found) (a .pre .0 .1 .0) (a .pre .0 .1 .1) .valEndsRise, (v .some, vals-within (a .args .words .now) (a .pre .0 .0) (a .args .found) (a .pre .0 .1 .0) (a .pre .0 .1 .1) (a .args .range) (c .span-of .result) v))
+    (cut-layers (a .args .words .now) (a .pre .0 .0) (a .args .found) (a .pre .0 .1 .0) (a .pre .0 .1 .1) .overVals .rises .rise, (v .some, vals-within (a .args .words .now) (a .pre .0 .0) (a .args .found) (a .pre .0 .1 .0) (a .pre .0 .1 .1) (a .args .range) (c .span-of .result) v))
 
 write-ranges-requires : tie.Need-write-ranges-requires
 write-ranges-requires c κs =

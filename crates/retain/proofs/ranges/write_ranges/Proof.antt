@@ -55,7 +55,7 @@ part-write-range-end c = let a = c .before .before .before .before .before .befo
 write-range-requires : tie.Need-write-range-requires
 write-range-requires c κs =
     let a = c .before .before .before .before .before .before .before .before .before .before .before .before .before .before .before in let u = range-cuts (a .pre .0) (a .pre .1) (c .before .before .before .before .before .layout .ensures) in
-    ((a .pre .0 .keyRows, a .pre .1 .keysIn), part-length _ _ _ _ (u .keys) (within-as _ _ _ (u .keysIn) (c .before .before .before .write-table .kept .0)))
+    ((a .pre .0 .overVals .rows, a .pre .1 .keysIn), part-length _ _ _ _ (u .keys) (within-as _ _ _ (u .keysIn) (c .before .before .before .write-table .kept .0)))
 
 mul-write-range-2 : tie.Need-mul-write-range-2
 mul-write-range-2 c = let a = c .before .before .before .before .before .before .before .before .before .before .before .before .before .before .before .before .before .before in let u = range-cuts (a .pre .0) (a .pre .1) (c .before .before .before .before .before .before .before .before .layout .ensures) in u .valsSmall
@@ -72,7 +72,7 @@ part-write-range-end-2 c = let a = c .before .before .before .before .before .be
 write-range-requires-2 : tie.Need-write-range-requires-2
 write-range-requires-2 c κs =
     let a = c .before .before .before .before .before .before .before .before .before .before .before .before .before .before .before .before .before .before .before in let u = range-cuts (a .pre .0) (a .pre .1) (c .before .before .before .before .before .before .before .before .before .layout .ensures) in
-    ((a .pre .0 .valRows, a .pre .1 .valsIn), part-length _ _ _ _ (u .vals) (within-as _ _ _ (u .valsIn) (c .before .before .out2 .given .1 ∙ c .before .before .before .before .before .before .before .write-table .kept .0)))
+    ((a .pre .0 .overTimes .rows, a .pre .1 .valsIn), part-length _ _ _ _ (u .vals) (within-as _ _ _ (u .valsIn) (c .before .before .out2 .given .1 ∙ c .before .before .before .before .before .before .before .write-table .kept .0)))
 
 mul-write-run : tie.Need-mul-write-run
 mul-write-run c = let a = c .before .before .before .before .before .before .before .before .before .before .before .before .before .before .before .before .before .before .before .before .before .before in run-small (a .pre .0) (a .pre .1)
@@ -132,8 +132,8 @@ returns c =
     (c .before .before .before .before .before .before .before .before .before .before .before .before .write-range .ensures) (c .before .before .before .before .before .before .before .before .write-range2 .ensures)
     (run-written (a .args .times .now) (a .args .diffs .now) (a .args .times-in) (p .timeRows) (q .timesIn) _ _ _ refl (part-length _ _ _ _ (u .times) (within-as _ _ _ (u .timesIn) (c .before .before .before .before .before .before .before .out3 .given .1 ∙ c .before .before .before .before .before .before .before .before .before .before .before .out2 .given .1 ∙ c .before .before .before .before .before .before .before .before .before .before .before .before .before .before .before .before .write-table .kept .0))) (c .before .before .write-run .ensures))
     (u .keysAt)
-    (u .keys ∙ ap (λ (n : ℕ). l .«keys_at» + n) (sym (length-rangeOut (a .args .keys .now) (a .args .val-ends .now) (a .args .vals-in) (a .args .keys-in) (p .keyRows) (q .keysIn))))
-    (u .vals ∙ ap (λ (n : ℕ). l .«vals_at» + n) (sym (length-rangeOut (a .args .vals .now) (a .args .time-ends .now) (a .args .times-in) (a .args .vals-in) (p .valRows) (q .valsIn))))
+    (u .keys ∙ ap (λ (n : ℕ). l .«keys_at» + n) (sym (length-rangeOut (a .args .keys .now) (a .args .val-ends .now) (a .args .vals-in) (a .args .keys-in) (p .overVals .rows) (q .keysIn))))
+    (u .vals ∙ ap (λ (n : ℕ). l .«vals_at» + n) (sym (length-rangeOut (a .args .vals .now) (a .args .time-ends .now) (a .args .times-in) (a .args .vals-in) (p .overTimes .rows) (q .valsIn))))
     (u .times ∙ ap (λ (n : ℕ). l .«times_at» + n) (sym (length-runOut (a .args .times .now) (a .args .diffs .now) (a .args .times-in) (p .timeRows) (q .timesIn))))
 
 pub write-ranges-spec : {M : Type 1} → statement M

@@ -161,12 +161,12 @@ pub(crate) fn write_layers(
             nk + nk,
             out,
         );
-        let done = reached.vals;
+        let after = reached.vals;
         out[at] = keys[i];
-        out[nk + at] = done as u64;
-        let stays = bit_of(total < done);
+        out[nk + at] = after as u64;
+        let stays = bit_of(total < after);
         at += stays;
-        total = done;
+        total = after;
         time = reached.time;
         written = reached.times;
         start = end;

@@ -117,6 +117,28 @@ module _ (upper times : List ℕ) where
           whole = w .whole ∙ ap (λ (l : List ℕ). leastOf (take count corners ++ l)) (rest-out i h o);
         }
 
+    -- the two tests as bits: the corners have no more at or below a time than the frontier
+    pub running-same : (p q : ℕ) → p ≡ bit (isOpen (take count corners) (getD times i 0)) → q ≡ bit (isOpen upper (getD times i 0)) → q ≤ p → Running corners count (number + q) (i + 1)
+    unfolding bit
+    running-same p q ep eq b =
+        by-test (isOpen upper (getD times i 0))
+        (λ o. let z : q ≡ 1 = simp o at eq in
+        by-test (isOpen (take count corners) (getD times i 0))
+        (λ d. rw z (running-over d))
+        (λ d. let y : p ≡ 0 = simp d at ep in absurd (omega arith)))
+        (λ o. let z : number + q ≡ number = (let y : q ≡ 0 = simp o at eq in omega arith) in rw z (running-out o))
+
+    pub newly : (p q : ℕ) → p ≡ bit (isOpen (take count corners) (getD times i 0)) → q ≡ bit (isOpen upper (getD times i 0)) → p < q
+        → (isOpen (take count corners) (getD times i 0) ≡ false) × ((isOpen upper (getD times i 0) ≡ true) × (q ≡ 1))
+    unfolding bit
+    newly p q ep eq b =
+        by-test (isOpen upper (getD times i 0))
+        (λ o. let z : q ≡ 1 = simp o at eq in
+        by-test (isOpen (take count corners) (getD times i 0))
+        (λ d. let y : p ≡ 1 = simp d at ep in absurd (omega arith))
+        (λ d. (d, (o, z))))
+        (λ o. let y : q ≡ 0 = simp o at eq in absurd (omega arith))
+
     -- an open one with none at or below it
     pub running-on : (r : ℕ) (after : List ℕ) → isOpen (take count corners) (getD times i 0) ≡ false → isOpen upper (getD times i 0) ≡ true
         → Joined (getD times i 0) (take count corners) r after → r ≤ 128 → Running after r (number + 1) (i + 1)

@@ -20,7 +20,7 @@ use climb::add_corner;
 use layers::write_layers;
 use look::count_open;
 use look::in_order;
-use look::is_open;
+use look::open_bit;
 use one_by_one::scan_corners;
 use ranges::retain_cut;
 use runs::copy;
@@ -276,8 +276,8 @@ pub struct Kept {
     pub frontier: Frontier,
 }
 
-// The open times in one look, with the corners of those so far: one that has a corner at or below it is open too. Gives up where the corners become
-// too many.
+// The open times in one look, with the corners of those so far. Only one that has none of them at or below it adds a corner. Gives up where the
+// corners become too many.
 fn climb_corners(times: &[u64], upper: &[u64]) -> Kept
     requires { ⌜ ordered (now upper) ≡ true ⌝ }
     ensures { λ r. ⌜ (r .fits ≡ true → r ≡ keptBy (keep (isOpen (now (upper .entry))) (now (times .entry)))) ⌝ }
@@ -288,10 +288,10 @@ fn climb_corners(times: &[u64], upper: &[u64]) -> Kept
     let mut i = 0;
     while i < times.len() {
         let time = times[i];
-        if is_open(&stairs[..count], time) {
-            number += 1;
-        } else if is_open(upper, time) {
-            number += 1;
+        let open = open_bit(upper, time) as usize;
+        let known = open_bit(&stairs[..count], time) as usize;
+        number += open;
+        if known < open {
             count = add_corner(&mut stairs[..], count, time);
             if Frontier::MOST < count {
                 return Kept {

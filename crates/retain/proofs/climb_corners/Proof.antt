@@ -6,10 +6,16 @@ use native.Mathlib.Omega.{arith}
 use lib.ListN.{length}
 use Rattle.laws.proofs.Tests.{true-not-false}
 use Rattle.retain.proofs.Spots.{standing-length}
-use Rattle.retain.proofs.Running.{Running, running-start, running-over, running-out, running-on, running-end}
+use Rattle.retain.proofs.Stairs.{bit-one}
+use Rattle.retain.proofs.Running.{Running, running-start, running-same, newly, running-on, running-end}
 use borrow.Author.Needs.{needs}
 use Rattle.retain.proofs.climb_corners.Statement.{statement}
 use Rattle.retain.proofs.climb_corners.Tie as tie
+use Rattle.retain.proofs.climb_corners.Reads as reads
+use Rattle.retain.proofs.climb_corners.Lts as lts
+use Rattle.retain.proofs.Frontier.new.Reads as new-reads
+use Rattle.retain.proofs.climb.add_corner.Reads as add-corner-reads
+use Rattle.retain.proofs.look.open_bit.Reads as open-bit-reads
 
 abbrev Inv-loop : tie.InvT-loop
 Inv-loop times upper stairs₀ count₀ number₀ i₀ stairs count number i = Running upper times stairs count number i
@@ -17,63 +23,67 @@ Inv-loop times upper stairs₀ count₀ number₀ i₀ stairs count number i = R
 abbrev μ-loop : tie.MeasureT-loop
 μ-loop times upper stairs₀ count₀ number₀ i₀ stairs count number i = length times - i
 
+-- src/lib.rt:289:5
 loop-holds : tie.Need-loop-holds Inv-loop μ-loop
 loop-holds c = running-start _ _
 
+-- src/lib.rt:290:20
 mul-time : tie.Need-mul-time Inv-loop μ-loop
 mul-time c = search needs
 
+-- src/lib.rt:290:20
 shared-slice-read-time : tie.Need-shared-slice-read-time Inv-loop μ-loop
 shared-slice-read-time c = search needs
 
+-- src/lib.rt:291:20
+open-bit-requires : tie.Need-open-bit-requires Inv-loop μ-loop
+open-bit-requires c κs = c .before .before .before .before .before .pre
+
+-- src/lib.rt:292:30
 array-share-prefix-stairs : tie.Need-array-share-prefix-stairs Inv-loop μ-loop
 array-share-prefix-stairs c = search needs
 
-slice-aggregate-is-open : tie.Need-slice-aggregate-is-open Inv-loop μ-loop
-slice-aggregate-is-open c = sym (standing-length _ _ (c .before .before .before .loop .inv .standing))
+-- src/lib.rt:292:30
+slice-aggregate-open-bit : tie.Need-slice-aggregate-open-bit Inv-loop μ-loop
+slice-aggregate-open-bit c = sym (standing-length _ _ (c .before .before .before .before .loop .inv .standing))
 
-is-open-requires : tie.Need-is-open-requires Inv-loop μ-loop
-is-open-requires c κs = search needs
+-- src/lib.rt:292:21
+open-bit-requires-2 : tie.Need-open-bit-requires-2 Inv-loop μ-loop
+open-bit-requires-2 c κs = c .before .before .before .before .loop .inv .standing .stairs
 
+-- src/lib.rt:293:9
 add-number : tie.Need-add-number Inv-loop μ-loop
-add-number c = let w = c .before .before .before .before .before .loop .inv .opened in let f = w .few in let o = w .onward in omega arith
+add-number c = let w = c .before .before .before .before .before .loop .inv .opened in let f = w .few in let o = w .onward in let b = bit-one _ _ (c .before .before .open-bit .ensures) in omega arith
 
-is-open-requires-2 : tie.Need-is-open-requires-2 Inv-loop μ-loop
-is-open-requires-2 c κs = c .before .before .before .before .before .before .before .before .pre
-
-add-number-2 : tie.Need-add-number-2 Inv-loop μ-loop
-add-number-2 c = let w = c .before .before .before .before .before .before .before .loop .inv .opened in let f = w .few in let o = w .onward in omega arith
-
+-- src/lib.rt:295:32
 slice-aggregate-add-corner : tie.Need-slice-aggregate-add-corner Inv-loop μ-loop
 slice-aggregate-add-corner c = search needs
 
+-- src/lib.rt:295:13
 add-corner-requires : tie.Need-add-corner-requires Inv-loop μ-loop
-add-corner-requires c κs = (c .before .before .before .before .before .before .before .before .loop .inv .standing, sym (c .before .before .before .before .is-open .ensures) ∙ c .before .before .before .if1 .left)
+add-corner-requires c κs = let l = c .before .before .before .before .before .before .before .loop in (l .inv .standing, newly _ _ _ _ _ (l .i) (l .inv) (c .before .before .before .before .before .before .loop-test .taken) _ _ (c .before .before .open-bit2 .ensures) (c .before .before .before .before .open-bit .ensures) (c .before .if1 .taken) .0)
 
+-- src/lib.rt:300:31
 new-requires : tie.Need-new-requires Inv-loop μ-loop
 new-requires c κs = search needs
 
+-- src/lib.rt:297:17
 returns : tie.Need-returns Inv-loop μ-loop
 returns c = λ h. absurd (true-not-false (sym h))
 
+-- src/lib.rt:304:9
 add-i : tie.Need-add-i Inv-loop μ-loop
 add-i c = search needs
 
+-- src/lib.rt:289:5
 loop-less : tie.Need-loop-less Inv-loop μ-loop
 loop-less c = search needs
 
+-- src/lib.rt:289:5
 loop-again : tie.Need-loop-again Inv-loop μ-loop
-loop-again c =
-    let l = c .before .before .before .before .before .loop in
-    let q = c .before .is-open .ensures in
-    let t = c .before .before .before .before .loop-test .taken in
-    ⊎-elim
-    (λ w. rw (w .1, w .2, w .3) (running-over _ _ _ _ _ _ (l .inv) t (sym q ∙ w .0 .taken)))
-    (⊎-elim
-    (λ w. rw (w .7, w .8, w .9) (running-on _ _ _ _ _ _ (l .inv) t _ _ (sym q ∙ w .0 .left) (sym (w .1 .ensures) ∙ w .2 .taken) (w .4 .ensures) (w .6 .left)))
-    (λ w. rw (w .3, w .4, w .5) (running-out _ _ _ _ _ _ (l .inv) t (sym (w .1 .ensures) ∙ w .2 .left))))
-    (c .if1 .came)
+loop-again c = let l = c .before .before .before .before .before .before .loop in let t = c .before .before .before .before .before .loop-test .taken in let k = c .before .open-bit2 .ensures in let o = c .before .before .before .open-bit .ensures in ⊎-elim (λ w. let n = newly _ _ _ _ _ (l .i) (l .inv) t _ _ k o (w .0 .taken) in rw (w .5, w .6, n .1 .1) (running-on _ _ _ _ _ (l .i) (l .inv) t _ _ (n .0) (n .1 .0) (w .2 .ensures) (w .4 .left))) (λ w. rw (w .1, w .2) (running-same _ _ _ _ _ (l .i) (l .inv) t _ _ k o (w .0 .left))) (c .if1 .came)
 
+-- src/lib.rt:281:1
 returns-2 : tie.Need-returns-2 Inv-loop μ-loop
 returns-2 c = λ h. let l = c .before .loop in running-end _ _ _ _ _ _ (l .inv) (c .loop-test .left)
 
@@ -86,12 +96,11 @@ climb-corners-spec =
     loop-holds
     mul-time
     shared-slice-read-time
+    open-bit-requires
     array-share-prefix-stairs
-    slice-aggregate-is-open
-    is-open-requires
+    slice-aggregate-open-bit
+    open-bit-requires-2
     add-number
-    is-open-requires-2
-    add-number-2
     slice-aggregate-add-corner
     add-corner-requires
     new-requires

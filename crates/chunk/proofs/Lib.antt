@@ -3,3 +3,4 @@ pub mod Tests
 pub mod WellFormed
 pub mod Placed
 pub mod Counting
+pub mod Falling

@@ -2,6 +2,7 @@ pub mod Entry
 pub mod Time
 pub mod Bodies
 pub mod Words
+pub mod Falls
 pub mod Contents
 pub mod Refusal
 pub mod Check

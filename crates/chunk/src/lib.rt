@@ -5,6 +5,7 @@ ghost use Rattle.chunk.specs.Time.{earlier, atOrBelow};
 ghost use Rattle.chunk.specs.Check.{checkedOf};
 ghost use Rattle.chunk.specs.Entry.{every};
 ghost use Rattle.chunk.specs.Words.{rises, endsRise, endsStep, lists, allOrNone, wellFormed};
+ghost use Rattle.chunk.specs.Falls.{fall, fallsOf, fallsAt};
 ghost use mathlib.Core.Bool.{true, not, _&&_};
 ghost use lib.Dec.{eqb};
 ghost use lib.ListN.{length};
@@ -217,27 +218,83 @@ fn counts_up(ends: &[u64]) -> bool
     good
 }
 
-// Whether the ends rise strictly from above 0 to the count of the items, and the items rise strictly within each list: list by list, in any layer.
-fn lists_rise(ends: &[u64], items: &[u64]) -> bool
-    ensures { λ r. ⌜ r ≡ (endsRise 0 (now (ends .entry)) (length (now (items .entry))) && every rises (lists 0 (now (ends .entry)) (now (items .entry)))) ⌝ }
+// Whether the ends rise strictly from above 0 to `top`. It reads every end, with no exit before the last.
+fn ends_rise(ends: &[u64], top: usize) -> bool
+    ensures { λ r. ⌜ r ≡ endsRise 0 (now (ends .entry)) top ⌝ }
 {
-    let mut low: usize = 0;
+    let mut good = true;
+    let mut low = 0;
     let mut i = 0;
     while i < ends.len() {
-        let end = ends[i] as usize;
+        let end = ends[i];
         if end <= low {
-            return false;
-        }
-        if items.len() < end {
-            return false;
-        }
-        if !items_rise(&items[low..end]) {
-            return false;
+            good = false;
         }
         low = end;
         i += 1;
     }
-    low == items.len()
+    if low != top as u64 {
+        return false;
+    }
+    good
+}
+
+// 1 where the next item is at or below the last, which is a fall, else 0.
+fn fall_of(last: u64, next: u64) -> usize
+    ensures { λ r. ⌜ r ≡ fall last next ⌝ }
+{
+    if last < next {
+        return 0;
+    }
+    1
+}
+
+// How many falls there are among the items.
+fn falls(items: &[u64]) -> usize
+    ensures { λ r. ⌜ r ≡ fallsOf (now (items .entry)) ⌝ }
+{
+    if items.len() == 0 {
+        return 0;
+    }
+    let mut count = 0;
+    let mut last = items[0];
+    let mut i = 1;
+    while i < items.len() {
+        let next = items[i];
+        count += fall_of(last, next);
+        last = next;
+        i += 1;
+    }
+    count
+}
+
+// How many of the items that a list starts with are falls. The first list starts with none: no item is before it.
+fn falls_at(ends: &[u64], items: &[u64]) -> usize
+    requires { ⌜ endsRise 0 (now ends) (length (now items)) ≡ true ⌝ }
+    ensures { λ r. ⌜ r ≡ fallsAt (now (ends .entry)) (now (items .entry)) ⌝ }
+{
+    if ends.len() == 0 {
+        return 0;
+    }
+    let mut count = 0;
+    let mut start = ends[0] as usize;
+    let mut i = 1;
+    while i < ends.len() {
+        count += fall_of(items[start - 1], items[start]);
+        start = ends[i] as usize;
+        i += 1;
+    }
+    count
+}
+
+// Whether the ends rise strictly from above 0 to the count of the items, and the items rise strictly within each list: where every fall is at the start of a list none is within one. No branch depends on where a list ends, in any layer.
+fn lists_rise(ends: &[u64], items: &[u64]) -> bool
+    ensures { λ r. ⌜ r ≡ (endsRise 0 (now (ends .entry)) (length (now (items .entry))) && every rises (lists 0 (now (ends .entry)) (now (items .entry)))) ⌝ }
+{
+    if !ends_rise(ends, items.len()) {
+        return false;
+    }
+    falls(items) == falls_at(ends, items)
 }
 
 // What `lists_rise` says. Where there are as many items as ends each list can have one item only, and the ends alone tell.

@@ -129,8 +129,7 @@ pub(crate) fn write_layers(
 )
     requires { ⌜ ordered (now corners) ≡ true ⌝ }
     requires { ⌜ Bodies (now keys) (now «val_ends») (now vals) (now «time_ends») (now times) (now «diff_ends») (now diffs) ⌝ }
-    requires { ⌜ Left (timeKept keep (now times) (now corners) (now «diff_ends»)) (now keys) (now «val_ends») (now vals) (now «time_ends») (now times) nk nv nt ⌝ }
-    requires { ⌜ length (now out) ≡ (nk + nk) + ((nv + nv) + (nt + (nt + nt))) ⌝ }
+    requires { ⌜ Left (timeKept keep (now times) (now corners) (now «diff_ends»)) (now keys) (now «val_ends») (now vals) (now «time_ends») (now times) nk nv nt × (length (now out) ≡ (nk + nk) + ((nv + nv) + (nt + (nt + nt)))) ⌝ }
     ensures { λ _. ⌜ now (out .exit) ≡ bodiesOut (timeKept keep (now (times .entry)) (now (corners .entry)) (now («diff_ends» .entry))) (now (keys .entry)) (now («val_ends» .entry)) (now (vals .entry)) (now («time_ends» .entry)) (now (times .entry)) (now («diff_ends» .entry)) (now (diffs .entry)) ⌝ }
 {
     let mut start = 0;

@@ -9,9 +9,10 @@ use borrow.Author.Tests.{lt-ltb, eq-eqb, ne-eqb, ltb-true, eqb-true, eqb-false}
 use lib.ListN.{length, take, drop, getD, length-drop}
 use lib.Seq.{drop-cons}
 use lib.Dec.{ltb, eqb}
+use lib.Bits.{bitOr, bitXor, or-zero-l, or-add-and, xor-self, xor-add-and, and-le-l, and-le-r}
 use Rattle.chunk.specs.Entry.{every}
 use Rattle.chunk.specs.Words.{endsRise, endsStep, rises, risesFrom, lists}
-use Rattle.chunk.proofs.Tests.{by-test, and-false, and-left, and-right}
+use Rattle.chunk.proofs.Tests.{by-test, and-false, and-left, and-right, and-joins}
 
 -- ends that rise by one each at least don't end below that
 pub steep : (low top : ℕ) (ends : List ℕ) → top < low + length ends → endsRise low ends top ≡ false
@@ -32,6 +33,19 @@ flat low top (e ∷ ends) h =
     (λ k. by-test (eqb e (suc low))
     (λ m. let q : e ≡ suc low = eqb-true _ _ m in simp (flat e top ends (omega arith), and-false))
     (λ m. simp (k, m)))
+
+-- two numbers have no bit where neither has, and no bit apart where they are one
+or-none : (a b : ℕ) → eqb (bitOr a b) 0 ≡ (eqb a 0 && eqb b 0)
+or-none a b =
+    by-test (eqb a 0)
+    (λ k. let q : a ≡ 0 = eqb-true _ _ k in simp (q, or-zero-l b))
+    (λ k. let q : a ≡ 0 → ⊥ = eqb-false _ _ k in simp (k, ne-eqb (bitOr a b) 0 (λ p. q (omega (arith, p, or-add-and a b, and-le-r a b)))))
+
+xor-none : (a b : ℕ) → eqb (bitXor a b) 0 ≡ eqb a b
+xor-none a b =
+    by-test (eqb a b)
+    (λ k. let q : a ≡ b = eqb-true _ _ k in simp (q, xor-self b, eq-eqb b b refl))
+    (λ k. let q : a ≡ b → ⊥ = eqb-false _ _ k in simp (k, ne-eqb (bitXor a b) 0 (λ p. q (omega (arith, p, xor-add-and a b, and-le-l a b, and-le-r a b)))))
 
 -- where so many ends are to rise by as much, the first is one more
 rise-first : (low e top : ℕ) (ends : List ℕ) → top ≡ suc (low + length ends) → endsRise low (e ∷ ends) top ≡ (eqb e (suc low) && endsRise (suc low) ends top)
@@ -67,16 +81,18 @@ steps low top (e ∷ ends) h =
 pub stepped : (top : ℕ) (ends : List ℕ) → length ends ≡ top → endsRise 0 ends (length ends) ≡ endsStep 0 ends top
 stepped top ends h = rw h (sym (steps 0 top ends (omega arith)))
 
--- of all the ends, those from one on: where it is one more those after it tell, and else the whole fails
+-- of all the ends, those from one on
 module _ (ends : List ℕ) (i : ℕ) (h : i < length ends) where
   turn : endsRise i (drop i ends) (length ends) ≡ (eqb (getD ends i 0) (i + 1) && endsRise (i + 1) (drop (i + 1) ends) (length ends))
   turn = rw (add-one, drop-cons ends i 0) (rise-first i _ (length ends) (drop (suc i) ends) (simp length-drop (omega arith)))
 
-  pub met : getD ends i 0 ≡ i + 1 → endsRise i (drop i ends) (length ends) ≡ endsRise (i + 1) (drop (i + 1) ends) (length ends)
-  met e = turn ∙ simp (eq-eqb _ _ e)
-
-  pub missed : (getD ends i 0 ≡ i + 1 → ⊥) → endsRise i (drop i ends) (length ends) ≡ false
-  missed e = turn ∙ simp (ne-eqb _ _ e)
+  -- none is wrong so far and none from here on, where none is wrong so far with this one, and none after it
+  pub marked : (wrong : ℕ) → (eqb wrong 0 && endsRise i (drop i ends) (length ends)) ≡ (eqb (bitOr wrong (bitXor (getD ends i 0) (i + 1))) 0 && endsRise (i + 1) (drop (i + 1) ends) (length ends))
+  marked wrong =
+      ap (λ (b : Bool). eqb wrong 0 && b) turn
+      ∙ and-joins (eqb wrong 0) (eqb (getD ends i 0) (i + 1)) (endsRise (i + 1) (drop (i + 1) ends) (length ends))
+      ∙ ap (λ (b : Bool). b && endsRise (i + 1) (drop (i + 1) ends) (length ends))
+      (sym (or-none wrong (bitXor (getD ends i 0) (i + 1)) ∙ ap (λ (b : Bool). eqb wrong 0 && b) (xor-none (getD ends i 0) (i + 1))))
 
 -- a list of one item at most rises
 single : (items : List ℕ) → rises (take 1 items) ≡ true

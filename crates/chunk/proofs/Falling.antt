@@ -25,7 +25,7 @@ flatFrom a (b ∷ l) =
     (λ k. simp (k, flatFrom b l, zero-add))
     (λ k. simp k (sym (ne-eqb (1 + fallsFrom b l) 0 (λ p. omega arith))))
 
-unfallen : (l : List ℕ) → rises l ≡ eqb (fallsOf l) 0
+pub unfallen : (l : List ℕ) → rises l ≡ eqb (fallsOf l) 0
 unfolding rises fallsOf
 unfallen [] = sym (eq-eqb 0 0 refl)
 unfallen (a ∷ l) = flatFrom a l
@@ -65,7 +65,7 @@ pub once : (a b : ℕ) → fall a b ≤ 1
 once a b = by-test (ltb a b) (λ k. simp k (omega arith)) (λ k. simp k (omega arith))
 
 -- ends that rise to a top don't pass it
-capped : (low top : ℕ) (ends : List ℕ) → endsRise low ends top ≡ true → low + length ends ≤ top
+pub capped : (low top : ℕ) (ends : List ℕ) → endsRise low ends top ≡ true → low + length ends ≤ top
 capped low top ends h =
     by-test (ltb top (low + length ends))
     (λ k. absurd (true-not-false (sym h ∙ steep low top ends (ltb-true _ _ k))))
@@ -105,10 +105,10 @@ more m n =
     (λ k. let q : n ≡ 0 = eqb-true _ _ k in k ∙ sym (eq-eqb (m + n) m (omega arith)))
     (λ k. let q : n ≡ 0 → ⊥ = eqb-false _ _ k in k ∙ sym (ne-eqb (m + n) m (λ p. q (omega arith))))
 
--- so the lists of a layer rise where all falls are at their starts
-pub started : (ends items : List ℕ) → endsRise 0 ends (length items) ≡ true → every rises (lists 0 ends items) ≡ eqb (fallsOf items) (fallsAt ends items)
-started ends items h =
-    all-rise _ ∙ more (fallsAt ends items) _ ∙ ap (λ (n : ℕ). eqb n (fallsAt ends items)) (sym (parted 0 ends items h))
+-- so the lists from one on rise where all falls are at their starts
+pub started : (low : ℕ) (ends items : List ℕ) → endsRise low ends (length items) ≡ true → every rises (lists low ends (drop low items)) ≡ eqb (fallsOf (drop low items)) (fallsAt ends items)
+started low ends items h =
+    all-rise _ ∙ more (fallsAt ends items) _ ∙ ap (λ (n : ℕ). eqb n (fallsAt ends items)) (sym (parted low ends items h))
 
 -- the first item
 pub first : (items : List ℕ) → 0 < length items → fallsOf items ≡ fallsFrom (getD items 0 0) (drop 1 items)

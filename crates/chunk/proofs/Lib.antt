@@ -4,3 +4,4 @@ pub mod WellFormed
 pub mod Placed
 pub mod Counting
 pub mod Falling
+pub mod Parting

@@ -43,6 +43,10 @@ and-right false b h = absurd (true-not-false (sym h))
 pub and-both : (a b : Bool) → a ≡ true → b ≡ true → (a && b) ≡ true
 and-both a b h k = simp (h, k)
 
+pub and-joins : (a b c : Bool) → (a && (b && c)) ≡ ((a && b) && c)
+and-joins true b c = refl
+and-joins false b c = refl
+
 -- two tests are equal that hold together
 pub bool-eq : (a b : Bool) → (a ≡ true → b ≡ true) → (b ≡ true → a ≡ true) → a ≡ b
 bool-eq true b f g = sym (f refl)

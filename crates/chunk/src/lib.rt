@@ -1,12 +1,12 @@
 ghost use mathlib.Core.Path.{_≡_};
-ghost use Prim.Native.Nat.{ℕ, _≤_, _^_};
+ghost use Prim.Native.Nat.{ℕ, suc, _≤_, _<_, _^_};
 ghost use Rattle.chunk.specs.Contents.{contentsOf, layoutOf, noContents, layoutWithin, withTable, childRange, Placed};
 ghost use Rattle.chunk.specs.Time.{earlier, atOrBelow};
 ghost use Rattle.chunk.specs.Check.{checkedOf};
 ghost use Rattle.chunk.specs.Entry.{every};
 ghost use Rattle.chunk.specs.Words.{rises, endsRise, endsStep, lists, allOrNone, wellFormed};
-ghost use Rattle.chunk.specs.Falls.{fall, fallsOf, fallsAt};
-ghost use mathlib.Core.Bool.{true, not, _&&_};
+ghost use Rattle.chunk.specs.Falls.{fall, fallsOf, fallsAt, Ahead};
+ghost use mathlib.Core.Bool.{not, _&&_, _||_};
 ghost use lib.Dec.{eqb};
 ghost use lib.ListN.{length};
 
@@ -42,6 +42,9 @@ pub struct Checked {
 
 // The most times that a chunk may have.
 const LIMIT: usize = 1048576;
+
+// How many lists are tested together.
+const PART: usize = 512;
 
 // The words before the first body.
 const TABLE: usize = 4;
@@ -183,39 +186,17 @@ pub fn at_or_below(s: u64, t: u64) -> bool
     s % 0x1_0000_0000 <= t % 0x1_0000_0000
 }
 
-// Whether the items rise strictly.
-fn items_rise(items: &[u64]) -> bool
-    ensures { λ r. ⌜ r ≡ rises (now (items .entry)) ⌝ }
-{
-    if items.len() == 0 {
-        return true;
-    }
-    let mut last = items[0];
-    let mut i = 1;
-    while i < items.len() {
-        let next = items[i];
-        if next <= last {
-            return false;
-        }
-        last = next;
-        i += 1;
-    }
-    true
-}
-
-// Whether the ends are 1, 2 and so on: only so do ends rise strictly from above 0 to their own count. It reads every end, so that no read waits for the one before it.
+// Whether the ends are 1, 2 and so on: only so do ends rise strictly from above 0 to their own count. A bit that an end has wrong stays in `wrong`. It reads every end, so that no read waits for the one before it.
 fn counts_up(ends: &[u64]) -> bool
     ensures { λ r. ⌜ r ≡ endsRise 0 (now (ends .entry)) (length (now (ends .entry))) ⌝ }
 {
-    let mut good = true;
+    let mut wrong = 0;
     let mut i = 0;
     while i < ends.len() {
-        if ends[i] != i as u64 + 1 {
-            good = false;
-        }
+        wrong |= ends[i] ^ (i as u64 + 1);
         i += 1;
     }
-    good
+    wrong == 0
 }
 
 // Whether the ends rise strictly from above 0 to `top`. It reads every end, with no exit before the last.
@@ -268,14 +249,18 @@ fn falls(items: &[u64]) -> usize
     count
 }
 
-// How many of the items that a list starts with are falls. The first list starts with none: no item is before it.
+// Whether the items rise strictly: then none of them is a fall.
+fn items_rise(items: &[u64]) -> bool
+    ensures { λ r. ⌜ r ≡ rises (now (items .entry)) ⌝ }
+{
+    falls(items) == 0
+}
+
+// How many of the items that a list starts with are falls, of all lists but the first.
 fn falls_at(ends: &[u64], items: &[u64]) -> usize
-    requires { ⌜ endsRise 0 (now ends) (length (now items)) ≡ true ⌝ }
+    requires { ⌜ Ahead (now ends) (now items) ⌝ }
     ensures { λ r. ⌜ r ≡ fallsAt (now (ends .entry)) (now (items .entry)) ⌝ }
 {
-    if ends.len() == 0 {
-        return 0;
-    }
     let mut count = 0;
     let mut start = ends[0] as usize;
     let mut i = 1;
@@ -287,14 +272,36 @@ fn falls_at(ends: &[u64], items: &[u64]) -> usize
     count
 }
 
-// Whether the ends rise strictly from above 0 to the count of the items, and the items rise strictly within each list: where every fall is at the start of a list none is within one. No branch depends on where a list ends, in any layer.
+// The count of the lists up to the end of the next part, of so many, where this many are done.
+fn part_end(done: usize, count: usize) -> usize
+    requires { ⌜ (done < count) × (count ≤ 2 ^ 61) ⌝ }
+    ensures { λ r. ⌜ (done < r) × (r ≤ count) ⌝ }
+{
+    if PART < count - done {
+        return done + PART;
+    }
+    count
+}
+
+// Whether the ends rise strictly from above 0 to the count of the items, and the items rise strictly within each list: where every fall is at the start of a list none is within one. No branch depends on where a list ends. The lists are taken part by part, so that a part's items are at hand when its starts are read.
 fn lists_rise(ends: &[u64], items: &[u64]) -> bool
     ensures { λ r. ⌜ r ≡ (endsRise 0 (now (ends .entry)) (length (now (items .entry))) && every rises (lists 0 (now (ends .entry)) (now (items .entry)))) ⌝ }
 {
     if !ends_rise(ends, items.len()) {
         return false;
     }
-    falls(items) == falls_at(ends, items)
+    let mut done = 0;
+    let mut low = 0;
+    while done < ends.len() {
+        let next = part_end(done, ends.len());
+        let high = ends[next - 1] as usize;
+        if falls(&items[low..high]) != falls_at(&ends[done..next], &items[0..high]) {
+            return false;
+        }
+        done = next;
+        low = high;
+    }
+    true
 }
 
 // What `lists_rise` says. Where there are as many items as ends each list can have one item only, and the ends alone tell.
@@ -307,24 +314,35 @@ fn layer_rises(ends: &[u64], items: &[u64]) -> bool
     lists_rise(ends, items)
 }
 
-// Whether each end is the previous one or one more, and the last is `top`: end by end, for any `top`.
+// Whether an end is the previous one or one more.
+fn steps(low: u64, end: u64) -> bool
+    ensures { λ r. ⌜ r ≡ (eqb end low || eqb end (suc low)) ⌝ }
+{
+    if end < low {
+        return false;
+    }
+    end - low <= 1
+}
+
+// Whether each end is the previous one or one more, and the last is `top`, for any `top`. It reads every end, with no exit before the last.
 fn ends_near(ends: &[u64], top: u64) -> bool
     ensures { λ r. ⌜ r ≡ endsStep 0 (now (ends .entry)) top ⌝ }
 {
+    let mut good = true;
     let mut low = 0;
     let mut i = 0;
     while i < ends.len() {
         let end = ends[i];
-        if end < low {
-            return false;
-        }
-        if 1 < end - low {
-            return false;
+        if !steps(low, end) {
+            good = false;
         }
         low = end;
         i += 1;
     }
-    low == top
+    if low != top {
+        return false;
+    }
+    good
 }
 
 // What `ends_near` says. Where `top` is the count of the ends, each end has to be one more than the previous one.
@@ -368,7 +386,7 @@ fn all_or_none(nk: usize, nv: usize, nt: usize) -> bool
     0 < nt
 }
 
-// Whether a slice with these contents is well formed: each body is read once.
+// Whether a slice with these contents is well formed. The bodies are read from the last to the first, so that a call that goes on from the first has that at hand.
 fn bodies_hold(words: &[u64], found: Contents) -> bool
     requires { ⌜ Placed found (now words) ⌝ }
     ensures { λ r. ⌜ r ≡ wellFormed (now (words .entry)) ⌝ }
@@ -383,30 +401,30 @@ fn bodies_hold(words: &[u64], found: Contents) -> bool
     if !all_or_none(nk, nv, nt) {
         return false;
     }
-    let keys_at = found.keys_at;
-    let val_ends_at = found.val_ends_at;
-    if !items_rise(&words[keys_at..val_ends_at]) {
+    let diffs_at = found.diffs_at;
+    let size = found.size;
+    if !diffs_stand(&words[diffs_at..size]) {
         return false;
     }
-    let vals_at = found.vals_at;
-    let time_ends_at = found.time_ends_at;
-    if !layer_rises(&words[val_ends_at..vals_at], &words[vals_at..time_ends_at]) {
-        return false;
-    }
-    let times_at = found.times_at;
     let diff_ends_at = found.diff_ends_at;
+    if !ends_step(&words[diff_ends_at..diffs_at], nd as u64) {
+        return false;
+    }
+    let time_ends_at = found.time_ends_at;
+    let times_at = found.times_at;
     if !layer_rises(
         &words[time_ends_at..times_at],
         &words[times_at..diff_ends_at],
     ) {
         return false;
     }
-    let diffs_at = found.diffs_at;
-    if !ends_step(&words[diff_ends_at..diffs_at], nd as u64) {
+    let val_ends_at = found.val_ends_at;
+    let vals_at = found.vals_at;
+    if !layer_rises(&words[val_ends_at..vals_at], &words[vals_at..time_ends_at]) {
         return false;
     }
-    let size = found.size;
-    diffs_stand(&words[diffs_at..size])
+    let keys_at = found.keys_at;
+    items_rise(&words[keys_at..val_ends_at])
 }
 
 // The check of a chunk: 5 exactly where the slice isn't well formed; else the contents, and whether it is settled.

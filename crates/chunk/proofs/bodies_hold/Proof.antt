@@ -1,6 +1,6 @@
 -- `chunk::bodies_hold` meets its contract: each test that fails is one of the ten of a well formed slice, and the last leaves them all held.
-use Prim.Native.Nat.{ℕ, _≤_, _<_, _+_, _*_, _-_}
-use mathlib.Core.Path.{_≡_, refl, sym, _∙_, ap}
+use Prim.Native.Nat.{ℕ, _≤_, _-_}
+use mathlib.Core.Path.{_≡_, sym, _∙_, ap}
 use mathlib.Core.Bool.{Bool, true, false, not, _&&_}
 use mathlib.Core.List.{List}
 use native.Mathlib.Omega.{arith}
@@ -18,13 +18,6 @@ use Rattle.chunk.proofs.Placed.{cut-keys, cut-val-ends, cut-vals, cut-t
 use borrow.Author.Needs.{needs}
 use Rattle.chunk.proofs.bodies_hold.Statement.{statement}
 use Rattle.chunk.proofs.bodies_hold.Tie as tie
-use Rattle.chunk.proofs.bodies_hold.Reads as reads
-use Rattle.chunk.proofs.bodies_hold.Lts as lts
-use Rattle.chunk.proofs.all_or_none.Reads as all-or-none-reads
-use Rattle.chunk.proofs.diffs_stand.Reads as diffs-stand-reads
-use Rattle.chunk.proofs.ends_step.Reads as ends-step-reads
-use Rattle.chunk.proofs.items_rise.Reads as items-rise-reads
-use Rattle.chunk.proofs.layer_rises.Reads as layer-rises-reads
 
 no : {b : Bool} → b ≡ true → b ≡ false → ⊥
 no h k = true-not-false (sym h ∙ k)
@@ -60,13 +53,13 @@ module _ (f : Contents) (w : List ℕ) (p : Placed f w) where
   -- the last test decides, once the others hold
   last :
       (counted : allOrNone (nk w) (nv w) (nt w) ≡ true)
-      (sorted : rises (keyBody w) ≡ true)
-      (valued : (endsRise 0 (valEndBody w) (nv w) && every rises (lists 0 (valEndBody w) (valBody w))) ≡ true)
-      (timed : (endsRise 0 (timeEndBody w) (nt w) && every rises (lists 0 (timeEndBody w) (timeBody w))) ≡ true)
+      (standing : every (λ (d : ℕ). not (eqb d 0)) (diffBody w) ≡ true)
       (stepped : endsStep 0 (diffEndBody w) (nd w) ≡ true)
+      (timed : (endsRise 0 (timeEndBody w) (nt w) && every rises (lists 0 (timeEndBody w) (timeBody w))) ≡ true)
+      (valued : (endsRise 0 (valEndBody w) (nv w) && every rises (lists 0 (valEndBody w) (valBody w))) ≡ true)
       → f .nt ≤ limit
-      → (r : Bool) → r ≡ every (λ (d : ℕ). not (eqb d 0)) (diffBody w) → r ≡ wellFormed w
-  last counted sorted valued timed stepped most r h =
+      → (r : Bool) → r ≡ rises (keyBody w) → r ≡ wellFormed w
+  last counted standing stepped timed valued most r h =
       by-test r
       (λ k. k ∙ sym (whole w (record {
         tableFits = and-both (leb tableSize (length w)) _ (le-leb _ _ (p .table)) (le-leb (size w) (length w) (p .within));
@@ -74,13 +67,13 @@ module _ (f : Contents) (w : List ℕ) (p : Placed f w) where
         counts = counted;
         valEndsRise = and-left _ _ valued;
         timeEndsRise = and-left _ _ timed;
-        keysRise = sorted;
+        keysRise = sym h ∙ k;
         valsRise = and-right (endsRise 0 (valEndBody w) (nv w)) _ valued;
         timesRise = and-right (endsRise 0 (timeEndBody w) (nt w)) _ timed;
         diffEndsStep = stepped;
-        diffsStand = sym h ∙ k;
+        diffsStand = standing;
       })))
-      (λ k. k ∙ refuted w (λ q. no (q .diffsStand) (sym h ∙ k)))
+      (λ k. k ∙ refuted w (λ q. no (q .keysRise) (sym h ∙ k)))
 
 returns : tie.Need-returns
 returns c = refuted _ (λ (p : Parts (c .before .before .args .words .now)). let h : nt (c .before .before .args .words .now) ≤ limit = leb-true _ _ (p .few) in omega arith)
@@ -91,23 +84,41 @@ all-or-none-requires c κs = search needs
 returns-2 : tie.Need-returns-2
 returns-2 c = refuted _ (λ p. no (p .counts) (sym (counts (c .before .before .before .before .args .found) (c .before .before .before .before .args .words .now) (c .before .before .before .before .pre) _ (c .before .all-or-none .ensures)) ∙ not-true _ (c .if2 .taken)))
 
-mul-items-rise : tie.Need-mul-items-rise
-mul-items-rise c = search needs
+mul-diffs-stand : tie.Need-mul-diffs-stand
+mul-diffs-stand c = search needs
 
-sub-items-rise : tie.Need-sub-items-rise
-sub-items-rise c = search needs
+sub-diffs-stand : tie.Need-sub-diffs-stand
+sub-diffs-stand c = search needs
 
-part-items-rise-start : tie.Need-part-items-rise-start
-part-items-rise-start c = search needs
+part-diffs-stand-start : tie.Need-part-diffs-stand-start
+part-diffs-stand-start c = search needs
 
-part-items-rise-end : tie.Need-part-items-rise-end
-part-items-rise-end c = search needs
+part-diffs-stand-end : tie.Need-part-diffs-stand-end
+part-diffs-stand-end c = search needs
 
-items-rise-requires : tie.Need-items-rise-requires
-items-rise-requires c κs = search needs
+diffs-stand-requires : tie.Need-diffs-stand-requires
+diffs-stand-requires c κs = search needs
 
 returns-3 : tie.Need-returns-3
-returns-3 c = refuted _ (λ p. no (p .keysRise) (sym (keys (c .before .before .before .before .before .before .before .args .found) (c .before .before .before .before .before .before .before .args .words .now) (c .before .before .before .before .before .before .before .pre) _ (c .before .items-rise .ensures)) ∙ not-true _ (c .if3 .taken)))
+returns-3 c = refuted _ (λ p. no (p .diffsStand) (sym (diffs (c .before .before .before .before .before .before .before .args .found) (c .before .before .before .before .before .before .before .args .words .now) (c .before .before .before .before .before .before .before .pre) _ (c .before .diffs-stand .ensures)) ∙ not-true _ (c .if3 .taken)))
+
+mul-ends-step : tie.Need-mul-ends-step
+mul-ends-step c = search needs
+
+sub-ends-step : tie.Need-sub-ends-step
+sub-ends-step c = search needs
+
+part-ends-step-start : tie.Need-part-ends-step-start
+part-ends-step-start c = search needs
+
+part-ends-step-end : tie.Need-part-ends-step-end
+part-ends-step-end c = search needs
+
+ends-step-requires : tie.Need-ends-step-requires
+ends-step-requires c κs = search needs
+
+returns-4 : tie.Need-returns-4
+returns-4 c = refuted _ (λ p. no (p .diffEndsStep) (sym (diffEnds (c .before .before .before .before .before .before .before .before .before .before .args .found) (c .before .before .before .before .before .before .before .before .before .before .args .words .now) (c .before .before .before .before .before .before .before .before .before .before .pre) _ (c .before .ends-step .ensures)) ∙ not-true _ (c .if4 .taken)))
 
 mul-layer-rises : tie.Need-mul-layer-rises
 mul-layer-rises c = search needs
@@ -136,8 +147,8 @@ part-layer-rises-end-2 c = search needs
 layer-rises-requires : tie.Need-layer-rises-requires
 layer-rises-requires c κs = search needs
 
-returns-4 : tie.Need-returns-4
-returns-4 c = refuted _ (λ p. no (and-both _ _ (p .valEndsRise) (p .valsRise)) (sym (vals (c .before .before .before .before .before .before .before .before .before .before .before .args .found) (c .before .before .before .before .before .before .before .before .before .before .before .args .words .now) (c .before .before .before .before .before .before .before .before .before .before .before .pre) _ (c .before .layer-rises .ensures)) ∙ not-true _ (c .if4 .taken)))
+returns-5 : tie.Need-returns-5
+returns-5 c = refuted _ (λ p. no (and-both _ _ (p .timeEndsRise) (p .timesRise)) (sym (times (c .before .before .before .before .before .before .before .before .before .before .before .before .before .before .args .found) (c .before .before .before .before .before .before .before .before .before .before .before .before .before .before .args .words .now) (c .before .before .before .before .before .before .before .before .before .before .before .before .before .before .pre) _ (c .before .layer-rises .ensures)) ∙ not-true _ (c .if5 .taken)))
 
 mul-layer-rises-3 : tie.Need-mul-layer-rises-3
 mul-layer-rises-3 c = search needs
@@ -166,41 +177,23 @@ part-layer-rises-end-4 c = search needs
 layer-rises-requires-2 : tie.Need-layer-rises-requires-2
 layer-rises-requires-2 c κs = search needs
 
-returns-5 : tie.Need-returns-5
-returns-5 c = refuted _ (λ p. no (and-both _ _ (p .timeEndsRise) (p .timesRise)) (sym (times (c .before .before .before .before .before .before .before .before .before .before .before .before .before .before .before .args .found) (c .before .before .before .before .before .before .before .before .before .before .before .before .before .before .before .args .words .now) (c .before .before .before .before .before .before .before .before .before .before .before .before .before .before .before .pre) _ (c .before .layer-rises2 .ensures)) ∙ not-true _ (c .if5 .taken)))
-
-mul-ends-step : tie.Need-mul-ends-step
-mul-ends-step c = search needs
-
-sub-ends-step : tie.Need-sub-ends-step
-sub-ends-step c = search needs
-
-part-ends-step-start : tie.Need-part-ends-step-start
-part-ends-step-start c = search needs
-
-part-ends-step-end : tie.Need-part-ends-step-end
-part-ends-step-end c = search needs
-
-ends-step-requires : tie.Need-ends-step-requires
-ends-step-requires c κs = search needs
-
 returns-6 : tie.Need-returns-6
-returns-6 c = refuted _ (λ p. no (p .diffEndsStep) (sym (diffEnds (c .before .before .before .before .before .before .before .before .before .before .before .before .before .before .before .before .before .before .args .found) (c .before .before .before .before .before .before .before .before .before .before .before .before .before .before .before .before .before .before .args .words .now) (c .before .before .before .before .before .before .before .before .before .before .before .before .before .before .before .before .before .before .pre) _ (c .before .ends-step .ensures)) ∙ not-true _ (c .if6 .taken)))
+returns-6 c = refuted _ (λ p. no (and-both _ _ (p .valEndsRise) (p .valsRise)) (sym (vals (c .before .before .before .before .before .before .before .before .before .before .before .before .before .before .before .before .before .before .args .found) (c .before .before .before .before .before .before .before .before .before .before .before .before .before .before .before .before .before .before .args .words .now) (c .before .before .before .before .before .before .before .before .before .before .before .before .before .before .before .before .before .before .pre) _ (c .before .layer-rises2 .ensures)) ∙ not-true _ (c .if6 .taken)))
 
-mul-diffs-stand : tie.Need-mul-diffs-stand
-mul-diffs-stand c = search needs
+mul-items-rise : tie.Need-mul-items-rise
+mul-items-rise c = search needs
 
-sub-diffs-stand : tie.Need-sub-diffs-stand
-sub-diffs-stand c = search needs
+sub-items-rise : tie.Need-sub-items-rise
+sub-items-rise c = search needs
 
-part-diffs-stand-start : tie.Need-part-diffs-stand-start
-part-diffs-stand-start c = search needs
+part-items-rise-start : tie.Need-part-items-rise-start
+part-items-rise-start c = search needs
 
-part-diffs-stand-end : tie.Need-part-diffs-stand-end
-part-diffs-stand-end c = search needs
+part-items-rise-end : tie.Need-part-items-rise-end
+part-items-rise-end c = search needs
 
-diffs-stand-requires : tie.Need-diffs-stand-requires
-diffs-stand-requires c κs = search needs
+items-rise-requires : tie.Need-items-rise-requires
+items-rise-requires c κs = search needs
 
 returns-7 : tie.Need-returns-7
 returns-7 c =
@@ -209,13 +202,13 @@ returns-7 c =
     let w = s .args .words .now in
     last f w (s .pre)
     (sym (counts f w (s .pre) _ (c .before .before .before .before .before .before .before .before .before .before .before .before .before .before .before .before .before .all-or-none .ensures)) ∙ not-false _ (c .before .before .before .before .before .before .before .before .before .before .before .before .before .before .before .before .if2 .left))
-    (sym (keys f w (s .pre) _ (c .before .before .before .before .before .before .before .before .before .before .before .before .before .before .items-rise .ensures)) ∙ not-false _ (c .before .before .before .before .before .before .before .before .before .before .before .before .before .if3 .left))
-    (sym (vals f w (s .pre) _ (c .before .before .before .before .before .before .before .before .before .before .layer-rises .ensures)) ∙ not-false _ (c .before .before .before .before .before .before .before .before .before .if4 .left))
-    (sym (times f w (s .pre) _ (c .before .before .before .before .before .before .layer-rises2 .ensures)) ∙ not-false _ (c .before .before .before .before .before .if5 .left))
-    (sym (diffEnds f w (s .pre) _ (c .before .before .before .ends-step .ensures)) ∙ not-false _ (c .before .before .if6 .left))
+    (sym (diffs f w (s .pre) _ (c .before .before .before .before .before .before .before .before .before .before .before .before .before .before .diffs-stand .ensures)) ∙ not-false _ (c .before .before .before .before .before .before .before .before .before .before .before .before .before .if3 .left))
+    (sym (diffEnds f w (s .pre) _ (c .before .before .before .before .before .before .before .before .before .before .before .ends-step .ensures)) ∙ not-false _ (c .before .before .before .before .before .before .before .before .before .before .if4 .left))
+    (sym (times f w (s .pre) _ (c .before .before .before .before .before .before .before .layer-rises .ensures)) ∙ not-false _ (c .before .before .before .before .before .before .if5 .left))
+    (sym (vals f w (s .pre) _ (c .before .before .before .layer-rises2 .ensures)) ∙ not-false _ (c .before .before .if6 .left))
     (c .before .before .before .before .before .before .before .before .before .before .before .before .before .before .before .before .before .before .if1 .left)
     _
-    (diffs f w (s .pre) _ (c .diffs-stand .ensures))
+    (keys f w (s .pre) _ (c .items-rise .ensures))
 
 pub bodies-hold-spec : {M : Type 1} → statement M
 bodies-hold-spec =
@@ -224,12 +217,18 @@ bodies-hold-spec =
     returns
     all-or-none-requires
     returns-2
-    mul-items-rise
-    sub-items-rise
-    part-items-rise-start
-    part-items-rise-end
-    items-rise-requires
+    mul-diffs-stand
+    sub-diffs-stand
+    part-diffs-stand-start
+    part-diffs-stand-end
+    diffs-stand-requires
     returns-3
+    mul-ends-step
+    sub-ends-step
+    part-ends-step-start
+    part-ends-step-end
+    ends-step-requires
+    returns-4
     mul-layer-rises
     sub-layer-rises
     part-layer-rises-start
@@ -239,7 +238,7 @@ bodies-hold-spec =
     part-layer-rises-start-2
     part-layer-rises-end-2
     layer-rises-requires
-    returns-4
+    returns-5
     mul-layer-rises-3
     sub-layer-rises-3
     part-layer-rises-start-3
@@ -249,16 +248,10 @@ bodies-hold-spec =
     part-layer-rises-start-4
     part-layer-rises-end-4
     layer-rises-requires-2
-    returns-5
-    mul-ends-step
-    sub-ends-step
-    part-ends-step-start
-    part-ends-step-end
-    ends-step-requires
     returns-6
-    mul-diffs-stand
-    sub-diffs-stand
-    part-diffs-stand-start
-    part-diffs-stand-end
-    diffs-stand-requires
+    mul-items-rise
+    sub-items-rise
+    part-items-rise-start
+    part-items-rise-end
+    items-rise-requires
     returns-7)

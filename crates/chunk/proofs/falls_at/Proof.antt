@@ -2,7 +2,6 @@
 use Prim.Native.Nat.{_≤_, _<_, _+_, _-_}
 use mathlib.Core.Path.{_≡_, sym, _∙_}
 use mathlib.Core.Bool.{true}
-use mathlib.Core.List.{[]}
 use native.Mathlib.Omega.{arith}
 use native.Mathlib.Nat.{add-zero}
 use borrow.Author.Needs.{needs}
@@ -24,27 +23,18 @@ abbrev μ-loop : tie.MeasureT-loop
 μ-loop ends items count₀ start₀ i₀ count start i = length ends - i
 
 -- a start but the first is that of an item
-start-inside : (c : lts.In-loop (fall-of-reads.Asked, fall-of-reads.Learnt) reads.Pre reads.Post Inv-loop μ-loop) → c .before .loop .start < length (now (c .before .before .before .before .before .before .args .items))
-start-inside c = inside (now (c .before .before .before .before .before .before .args .ends)) _ _ (c .before .loop .i) (c .loop-test .taken) (c .before .loop .inv .4)
-
-returns : tie.Need-returns Inv-loop μ-loop
-unfolding fallsAt fallsAtFrom
-returns c =
-    let s = now (c .before .before .before .args .ends) in
-    let k : length s ≤ 0 = omega arith in
-    let e : s ≡ [] = drop-of-length-le s k in
-    sym (simp e)
+start-inside : (c : lts.In-loop (fall-of-reads.Asked, fall-of-reads.Learnt) reads.Pre reads.Post Inv-loop μ-loop) → c .before .loop .start < length (now (c .before .before .before .before .before .args .items))
+start-inside c = inside (now (c .before .before .before .before .before .args .ends)) _ _ (c .before .loop .i) (c .loop-test .taken) (c .before .loop .inv .4)
 
 shared-slice-read-start : tie.Need-shared-slice-read-start Inv-loop μ-loop
 shared-slice-read-start c = search needs
 
 loop-holds : tie.Need-loop-holds Inv-loop μ-loop
 loop-holds c =
-    let b = c .before .before .before .before in
+    let b = c .before .before .before in
     let s = now (b .args .ends) in
-    let t = length (now (b .args .items)) in
-    let h : 0 < length s = omega arith in
-    (search needs, search needs, search needs, above s 0 t 0 h (b .pre), goesOn s 0 t 0 h (b .pre), omega (arith, firstEnd s (now (b .args .items)) h))
+    let p = b .pre in
+    (search needs, search needs, search needs, p .starts, p .rise, omega (arith, firstEnd s (now (b .args .items)) (p .some)))
 
 sub-fall-of : tie.Need-sub-fall-of Inv-loop μ-loop
 sub-fall-of c = search needs
@@ -67,7 +57,7 @@ fall-of-requires c κs = search needs
 add-count : tie.Need-add-count Inv-loop μ-loop
 add-count c =
     let l = c .before .before .before .before .loop in
-    let s = now (c .before .before .before .before .before .before .before .before .before .args .items) in
+    let s = now (c .before .before .before .before .before .before .before .before .args .items) in
     omega (arith, once (getD s (l .start - 1) 0) (getD s (l .start) 0))
 
 mul-start : tie.Need-mul-start Inv-loop μ-loop
@@ -85,7 +75,7 @@ loop-less c = search needs
 loop-again : tie.Need-loop-again Inv-loop μ-loop
 loop-again c =
     let l = c .before .before .before .before .before .loop in
-    let a = c .before .before .before .before .before .before .before .before .before .before .args in
+    let a = c .before .before .before .before .before .before .before .before .before .args in
     let s = now (a .ends) in
     let d = now (a .items) in
     let o = once (getD d (l .start - 1) 0) (getD d (l .start) 0) in
@@ -94,10 +84,10 @@ loop-again c =
     let t = turnEnd s d (l .start) (l .i) h in
     (search needs, search needs, omega arith, omega arith, goesOn s (l .start) (length d) (l .i) h (l .inv .4), omega arith)
 
-returns-2 : tie.Need-returns-2 Inv-loop μ-loop
+returns : tie.Need-returns Inv-loop μ-loop
 unfolding fallsAt fallsAtFrom
-returns-2 c =
-    let s = now (c .before .before .before .before .before .before .args .ends) in
+returns c =
+    let s = now (c .before .before .before .before .before .args .ends) in
     sym (c .before .loop .inv .5 ∙ simp (drop-of-length-le s (c .loop-test .left), add-zero))
 
 pub falls-at-spec : {M : Type 1} → statement M
@@ -106,7 +96,6 @@ falls-at-spec =
     (tie.spec
     Inv-loop
     μ-loop
-    returns
     shared-slice-read-start
     loop-holds
     sub-fall-of
@@ -121,4 +110,4 @@ falls-at-spec =
     add-i
     loop-less
     loop-again
-    returns-2)
+    returns)

@@ -16,6 +16,7 @@ pub mod Surveying
 pub mod Covering
 pub mod Layering
 pub mod WriteRuns
+pub mod WriteRows
 pub mod WriteEnds
 pub mod WriteDiffs
 pub mod WriteUnder

@@ -32,7 +32,7 @@ use Rattle.merge.proofs.Moving.{Reading, reading}
 use Rattle.merge.proofs.WriteRuns.{length-named}
 use Rattle.merge.proofs.WriteUnder.{found, under-serves, under-some, serves-upward, inside-serves, inside-some}
 use Rattle.merge.proofs.WriteEntries.{times-by, diffs-by, diffs-all}
-use Rattle.merge.proofs.WriteDiffEnds.{diff-ends-by}
+use Rattle.merge.proofs.WriteDiffEnds.{settled-rise, diff-ends-by}
 use Rattle.merge.proofs.Rows.{rows-of, rows-rise}
 use Rattle.merge.proofs.Bodies.{bodies-by, key-count, val-count, key-itself, list-itself}
 
@@ -220,7 +220,7 @@ module _ (w0 : List ℕ) (c0 : Contents) (w1 : List ℕ) (c1 : Contents) (s : Li
         → LayerRoom (c0 .«val_ends_at») (c0 .«vals_at») (c0 .«time_ends_at») (c1 .«val_ends_at») (c1 .«vals_at») (c1 .«time_ends_at») 0 (p .keys) (p .«vals_at») (p .vals) (to .«val_ends_at») (to .«vals_at») out
     vals-room out o =
         record {
-          ends = rw (r0 .val-end-words, r1 .val-end-words, e) (record { stands = omega (arith, y .keys-stand); found = vals-found; counting = vals-counting; fits = omega (arith, y .fits, count-keys) });
+          ends = rw (r0 .val-end-words, r1 .val-end-words, e) (record { stands = omega (arith, y .keys-stand); rise0 = rw (r0 .val-end-words) at (r0 .val-ends-rise .rise); rise1 = rw (r1 .val-end-words) at (r1 .val-ends-rise .rise); found = vals-found; counting = vals-counting; fits = omega (arith, y .fits, count-keys) });
           runs = rw (r0 .val-words, r1 .val-words, e) (record { stands = y .vals-stand; serves = serve-vals; fits = omega (arith, y .fits, count-keys) });
           in0 = (within0 .1, within0 .2);
           in1 = (within1 .1, within1 .2);
@@ -230,7 +230,7 @@ module _ (w0 : List ℕ) (c0 : Contents) (w1 : List ℕ) (c1 : Contents) (s : Li
         → LayerRoom (c0 .«time_ends_at») (c0 .«times_at») (c0 .«diff_ends_at») (c1 .«time_ends_at») (c1 .«times_at») (c1 .«diff_ends_at») (p .«vals_at») (p .vals) (p .«times_at») (p .times) (to .«time_ends_at») (to .«times_at») out
     times-room out o =
         record {
-          ends = rw (r0 .time-end-words, r1 .time-end-words, e) (record { stands = y .vals-stand; found = times-found; counting = times-counting; fits = omega (arith, y .fits, count-keys, count-vals) });
+          ends = rw (r0 .time-end-words, r1 .time-end-words, e) (record { stands = y .vals-stand; rise0 = rw (r0 .time-end-words) at (r0 .time-ends-rise .rise); rise1 = rw (r1 .time-end-words) at (r1 .time-ends-rise .rise); found = times-found; counting = times-counting; fits = omega (arith, y .fits, count-keys, count-vals) });
           runs = rw (r0 .time-words, r1 .time-words, e) (record { stands = y .times-stand; serves = rw (times-count es, times-count fs) serve-times; fits = omega (arith, y .fits, count-keys, count-vals) });
           in0 = (within0 .3, within0 .4);
           in1 = (within1 .3, within1 .4);
@@ -288,6 +288,8 @@ module _ (w0 : List ℕ) (c0 : Contents) (w1 : List ℕ) (c1 : Contents) (s : Li
           some = under-some (timeEnds es) (timeEnds fs) (length es) (length fs) (ends-rise sameList alike-list list-itself es) (ends-rise sameList alike-list list-itself fs) vs ts (y .layered .times-under);
           long0 = diff-ends-count es ∙ times-count es ∙ sym many0;
           long1 = diff-ends-count fs ∙ times-count fs ∙ sym many1;
+          rise0 = settled-rise es stand0;
+          rise1 = settled-rise fs stand1;
           small = omega (arith, y .layered .few-times);
         })
 

@@ -4,15 +4,16 @@ use mathlib.Core.Path.{_≡_, refl, sym, _∙_, ap}
 use mathlib.Core.Bool.{Bool, true, false, cond, _&&_}
 use mathlib.Core.List.{List, [], _∷_, _++_, map, map-append}
 use native.Mathlib.Omega.{arith}
-use lib.Dec.{eqb}
+use lib.Dec.{eqb, ltb}
 use lib.ListN.{length, getD, take, drop, length-drop, length-map}
 use lib.Seq.{length-take-le, drop-cons}
-use borrow.Author.Tests.{ne-eqb}
-use Rattle.laws.proofs.Tests.{and-left, and-right}
+use borrow.Author.Tests.{ne-eqb, lt-ltb}
+use Rattle.laws.proofs.Tests.{and-left, and-right, and-both}
+use Rattle.laws.proofs.Tries.{rises-tail}
 use Rattle.chunk.specs.Entry.{Entry, stands, keep, every}
 use Rattle.chunk.specs.Bodies.{diffs, diffEnds, diffEndsFrom}
 use Rattle.chunk.specs.Sums.{plus}
-use Rattle.chunk.specs.Words.{limit}
+use Rattle.chunk.specs.Words.{limit, rises, risesFrom}
 use Rattle.meld.specs.Copy.{shifted, shiftedAll}
 use Rattle.meld.proofs.Append.{raised, diff-ends-append}
 use Rattle.merge.specs.Survey.{Report, this, that, both}
@@ -38,6 +39,16 @@ ends-counted : (n : ℕ) (es : List Entry) → every stands es ≡ true → diff
 unfolding diffEndsFrom every counted
 ends-counted n [] h = refl
 ends-counted n (e ∷ es) h = rw (and-left (stands e) _ h) (ap (λ (l : List ℕ). suc n ∷ l) (ends-counted (suc n) es (and-right (stands e) _ h)))
+
+counted-rise : (n m : ℕ) → risesFrom n (counted n m) ≡ true
+unfolding counted risesFrom
+counted-rise n zero = refl
+counted-rise n (suc m) = and-both (ltb n (suc n)) _ (lt-ltb n (suc n) (omega arith)) (counted-rise (suc n) m)
+
+-- the diff ends of a settled input rise
+pub settled-rise : (es : List Entry) → every stands es ≡ true → rises (diffEnds es) ≡ true
+unfolding rises
+settled-rise es h = rw (ends-counted 0 es h) (rises-tail 0 (counted 0 (length es)) (counted-rise 0 (length es)))
 
 drop-counted : (l n m : ℕ) → drop l (counted n m) ≡ counted (n + l) (m - l)
 unfolding counted

@@ -126,7 +126,7 @@ module _ (ends0 ends1 a b s goal out₀ out : List ℕ) (p base at : ℕ) where
 
   module _ (next : ℕ) (f : next ≡ base + length (diffOf a b (reportAt s p))) where
     pub tail-room : (left : ℕ) → 0 < left → Tailing ends0 ends1 a b s goal out₀ out p left base at
-        → ListRoom (length ends0) (length ends1) s p p base next at (length out)
+        → ListRoom ends0 ends1 s p p base next at (length out)
     unfolding reportsAt widths
     tail-room zero h w = absurd (omega arith)
     tail-room (suc left) h w =
@@ -135,6 +135,8 @@ module _ (ends0 ends1 a b s goal out₀ out : List ℕ) (p base at : ℕ) where
           stands = omega (arith, w .room .runs .stands);
           items = omega (arith, w .room .runs .stands);
           serves = rw (w .room .long0, w .room .long1) (w .room .runs .serves .0);
+          rise0 = w .room .rise0;
+          rise1 = w .room .rise1;
           some = w .room .some .0;
           fits = omega (arith, w .room .runs .fits, w .same);
           small = omega (arith, w .room .small);
@@ -161,6 +163,8 @@ module _ (ends0 ends1 a b s goal out₀ out : List ℕ) (p base at : ℕ) where
                 some = w .room .some .1;
                 long0 = w .room .long0;
                 long1 = w .room .long1;
+                rise0 = w .room .rise0;
+                rise1 = w .room .rise1;
                 small = omega (arith, w .room .small);
               };
           same = length-placed at out ends fit ∙ w .same;

@@ -8,7 +8,7 @@ use native.Mathlib.Numerals.{add-one}
 use lib.Dec.{ltb}
 use lib.ListN.{length, getD, take, drop, set, length-append, length-map}
 use lib.Seq.{set-split}
-use Rattle.chunk.specs.Words.{limit}
+use Rattle.chunk.specs.Words.{limit, rises}
 use Rattle.meld.specs.Copy.{shifted, shiftedAll}
 use Rattle.merge.specs.Survey.{Report, this, that, both}
 use Rattle.merge.specs.Scratch.{placed, report, reportAt, reportsAt}
@@ -155,22 +155,22 @@ shifts : (by base x : ℕ) (l : List ℕ) → x < 2 ^ 64 → (by + x) % 2 ^ 64 �
 shifts by base x [] h q = refl
 shifts by base x (e ∷ l) h q = rw (wraps by base x e h q, shifts by base x l h q)
 
-module _ (a b s : List ℕ) (p q base next at room : ℕ) (r : ListRoom (length a) (length b) s p q base next at room) where
-  pub this-lists : getD s p 0 ≡ 0 → (Room (getD s (p + 1) 0) (getD s (p + 2) 0 - 1) at (length a) (room - 1)) × ((1 ≤ getD s (p + 2) 0) × (1 ≤ room))
+module _ (a b s : List ℕ) (p q base next at room : ℕ) (r : ListRoom a b s p q base next at room) where
+  pub this-lists : getD s p 0 ≡ 0 → (Room (getD s (p + 1) 0) (getD s (p + 2) 0 - 1) at (length a) (room - 1)) × (((1 ≤ getD s (p + 2) 0) × (1 ≤ room)) × (rises a ≡ true))
   this-lists k =
       let e : reportAt s p ≡ this (getD s (p + 1) 0) (getD s (p + 2) 0) = is-this _ _ k in
       let v = rw e at (r .serves) in
       let f = rw e at (r .fits) in
       let o = rw e at (r .some) in
-      (record { ordered = omega arith; within = omega (arith, v .1); fits = omega arith }, (omega arith, omega arith))
+      (record { ordered = omega arith; within = omega (arith, v .1); fits = omega arith }, ((omega arith, omega arith), r .rise0))
 
-  pub that-lists : getD s p 0 ≡ 1 → (Room (getD s (p + 1) 0) (getD s (p + 2) 0 - 1) at (length b) (room - 1)) × ((1 ≤ getD s (p + 2) 0) × (1 ≤ room))
+  pub that-lists : getD s p 0 ≡ 1 → (Room (getD s (p + 1) 0) (getD s (p + 2) 0 - 1) at (length b) (room - 1)) × (((1 ≤ getD s (p + 2) 0) × (1 ≤ room)) × (rises b ≡ true))
   that-lists k =
       let e : reportAt s p ≡ that (getD s (p + 1) 0) (getD s (p + 2) 0) = is-that _ _ k in
       let v = rw e at (r .serves) in
       let f = rw e at (r .fits) in
       let o = rw e at (r .some) in
-      (record { ordered = omega arith; within = omega (arith, v .1); fits = omega arith }, (omega arith, omega arith))
+      (record { ordered = omega arith; within = omega (arith, v .1); fits = omega arith }, ((omega arith, omega arith), r .rise1))
 
   pub both-fits : (getD s p 0 ≡ 0 → ⊥) → (getD s p 0 ≡ 1 → ⊥) → at + 1 ≤ room
   both-fits h k = let e : reportAt s p ≡ both (getD s (p + 1) 0) (getD s (p + 2) 0) = is-both _ _ _ h k in rw e at (r .fits)
@@ -300,7 +300,7 @@ module _ (a b s goal out₀ out : List ℕ) (p q rest base at : ℕ) where
 
     module _ (next : ℕ) (f : next ≡ base + widths (reportsAt s q size)) where
       pub list-room : (left : ℕ) → 0 < left → Ending a b s goal out₀ out p left q rest base at
-          → ListRoom (length a) (length b) s p q base next at (length out)
+          → ListRoom a b s p q base next at (length out)
       unfolding reportsAt widths
       list-room zero h w = absurd (omega arith)
       list-room (suc n) h w =
@@ -310,6 +310,8 @@ module _ (a b s goal out₀ out : List ℕ) (p q rest base at : ℕ) where
             stands = omega (arith, w .room .stands);
             items = omega (arith, w .room .counting .stands);
             serves = w .room .found .0;
+            rise0 = w .room .rise0;
+            rise1 = w .room .rise1;
             some = w .room .found .1;
             fits = omega (arith, w .room .fits, w .same);
             small = omega (arith, c .small);
@@ -340,6 +342,8 @@ module _ (a b s goal out₀ out : List ℕ) (p q rest base at : ℕ) where
             room =
                 record {
                   stands = omega (arith, w .room .stands);
+                  rise0 = w .room .rise0;
+                  rise1 = w .room .rise1;
                   found = rw (← e, d) at (w .room .found .4);
                   counting =
                       record {

@@ -7,7 +7,7 @@ use mathlib.Core.List.{List, [], _∷_, _++_}
 use lib.Dec.{ltb}
 use lib.ListN.{length, getD, take, drop}
 use Rattle.chunk.specs.Entry.{Entry}
-use Rattle.chunk.specs.Words.{limit}
+use Rattle.chunk.specs.Words.{limit, rises}
 use Rattle.chunk.specs.Contents.{startOf}
 use Rattle.meld.specs.Copy.{shiftedAll}
 use Rattle.merge.specs.Survey.{Report, this, that, both}
@@ -152,6 +152,16 @@ firstLow (r ∷ rs) = lowOf r
 abbrev pub wrapped : ℕ → ℕ → ℕ
 wrapped base x = (base + (2 ^ 64 - x)) % 2 ^ 64
 
+-- so many numbers from x on, in 64 bits
+unfoldable pub countedOn : ℕ → ℕ → List ℕ
+countedOn x zero = []
+countedOn x (suc n) = x % 2 ^ 64 ∷ countedOn (suc x) n
+
+-- ends that follow one another, where they rise: the last is as far above the first as it stands past it
+pub record InRow (ends : List ℕ) (from to : ℕ) : Type 0 where
+  pub some : from < to
+  pub last : getD ends (to - 1) 0 ≡ getD ends from 0 + (to - 1 - from)
+
 -- the ends of the lists of one report: those before the last list shifted by a constant, and the last one where its items end
 unfoldable pub listEnds : List ℕ → List ℕ → Report → ℕ → ℕ → ℕ → List ℕ
 listEnds ends0 ends1 (this l h) x base next = shiftedAll (wrapped base x) (take (h - 1 - l) (drop l ends0)) ++ (next ∷ [])
@@ -191,10 +201,12 @@ pub record Counting (s : List ℕ) (p count base : ℕ) : Type 0 where
   pub small : base + widths (reportsAt s p count) ≤ limit
 
 -- a report of lists at p, the first report of its items at q, and room for its ends
-pub record ListRoom (n m : ℕ) (s : List ℕ) (p q base next at room : ℕ) : Type 0 where
+pub record ListRoom (ends0 ends1 s : List ℕ) (p q base next at room : ℕ) : Type 0 where
   pub stands : p + 3 ≤ length s
   pub items : q + 3 ≤ length s
-  pub serves : Serves n m (reportAt s p)
+  pub serves : Serves (length ends0) (length ends1) (reportAt s p)
+  pub rise0 : rises ends0 ≡ true
+  pub rise1 : rises ends1 ≡ true
   pub some : 1 ≤ width (reportAt s p)
   pub fits : at + width (reportAt s p) ≤ room
   pub small : next ≤ limit
@@ -203,6 +215,8 @@ pub record ListRoom (n m : ℕ) (s : List ℕ) (p q base next at room : ℕ) : T
 -- reports of lists from p on, of items from q on, and room for the ends
 pub record EndsRoom (ends0 ends1 s : List ℕ) (p lists q items base at room : ℕ) : Type 0 where
   pub stands : p + 3 * lists ≤ length s
+  pub rise0 : rises ends0 ≡ true
+  pub rise1 : rises ends1 ≡ true
   pub found : Found ends0 ends1 (reportsAt s p lists) (reportsAt s q items)
   pub counting : Counting s q items base
   pub fits : at + widths (reportsAt s p lists) ≤ room
@@ -243,6 +257,8 @@ pub record DiffsRoom (ends0 ends1 a b s : List ℕ) (p count base at room : ℕ)
   pub some : AllSome (reportsAt s p count)
   pub long0 : length ends0 ≡ length a
   pub long1 : length ends1 ≡ length b
+  pub rise0 : rises ends0 ≡ true
+  pub rise1 : rises ends1 ≡ true
   pub small : base + widths (reportsAt s p count) ≤ limit
 
 -- a layer in its two places: the ends of the lists that `ls` name, and the items that `is` name

@@ -1,11 +1,12 @@
+ghost use mathlib.Core.Bool.{true};
 ghost use mathlib.Core.Path.{_≡_};
 ghost use mathlib.Core.List.{[], _∷_, _++_};
 ghost use Prim.Native.Nat.{_≤_, _+_, _-_, _*_};
 ghost use lib.ListN.{length, take, drop};
-ghost use Rattle.chunk.specs.Words.{limit};
+ghost use Rattle.chunk.specs.Words.{limit, rises};
 ghost use Rattle.meld.specs.Copy.{shiftedAll};
 ghost use Rattle.merge.specs.Scratch.{placed, reportAt, reportsAt};
-ghost use Rattle.merge.specs.Write.{Room, RunRoom, RunsRoom, named, itemsBy, width, widths, startsIn, insideFrom, groupSize, Serves, lowOf, listEnds, endsBy, Rising, Counting, ListRoom, EndsRoom, diffOf, diffsBy, diffEndsBy, DiffsRoom, layerBy};
+ghost use Rattle.merge.specs.Write.{Room, RunRoom, RunsRoom, named, itemsBy, width, widths, startsIn, insideFrom, groupSize, Serves, lowOf, listEnds, endsBy, Rising, Counting, ListRoom, EndsRoom, countedOn, InRow, diffOf, diffsBy, diffEndsBy, DiffsRoom, layerBy};
 
 // The kinds of a report: a run of the first input, a run of the second; any other is an item of both.
 use crate::THAT;
@@ -20,12 +21,45 @@ fn put_items(out: &mut [u64], at: usize, words: &[u64], from: usize, to: usize)
     meld::copy_into(&mut out[at..end], &words[from..to]);
 }
 
-// Copies the ends from `from` to `to` into the output from `at` on, each with `by` added.
+// Fewer ends than this are copied also where they follow one another.
+const MANY: usize = 16;
+
+// Writes `first` and the numbers after it, in 64 bits.
+fn count_on(out: &mut [u64], first: u64)
+    ensures { λ _. ⌜ now (out .exit) ≡ countedOn first (length (now (out .entry))) ⌝ }
+{
+    let mut i = 0;
+    while i < out.len() {
+        out[i] = std::num::wrapping_add_u64(first, i as u64);
+        i += 1;
+    }
+}
+
+// Whether the ends from `from` to `to` are many that follow one another, by the first and the last of them.
+fn in_row(ends: &[u64], from: usize, to: usize) -> bool
+    requires { ⌜ (from ≤ to) × (to ≤ length (now ends)) ⌝ }
+    requires { ⌜ rises (now ends) ≡ true ⌝ }
+    ensures { λ r. ⌜ (r ≡ true → InRow (now (ends .entry)) from to) ⌝ }
+{
+    if to - from < MANY {
+        return false;
+    }
+    let last = to - 1;
+    ends[last] - ends[from] == (last - from) as u64
+}
+
+// Writes the ends from `from` to `to` into the output from `at` on, each with `by` added; ends that follow one another aren't read.
 fn put_ends(out: &mut [u64], at: usize, words: &[u64], from: usize, to: usize, by: u64)
     requires { ⌜ Room from to at (length (now words)) (length (now out)) ⌝ }
+    requires { ⌜ rises (now words) ≡ true ⌝ }
     ensures { λ _. ⌜ now (out .exit) ≡ placed at (shiftedAll by (take (to - from) (drop from (now (words .entry))))) (now (out .entry)) ⌝ }
 {
     let end = at + (to - from);
+    if in_row(words, from, to) {
+        let first = std::num::wrapping_add_u64(words[from], by);
+        count_on(&mut out[at..end], first);
+        return;
+    }
     meld::copy_shifted(&mut out[at..end], &words[from..to], by);
 }
 
@@ -184,6 +218,7 @@ fn put_lists(
 )
     requires { ⌜ Room low (high - 1) at (length (now ends)) (length (now out) - 1) ⌝ }
     requires { ⌜ (1 ≤ high) × (1 ≤ length (now out)) ⌝ }
+    requires { ⌜ rises (now ends) ≡ true ⌝ }
     ensures { λ _. ⌜ now (out .exit) ≡ placed at (shiftedAll by (take (high - 1 - low) (drop low (now (ends .entry)))) ++ (next ∷ [])) (now (out .entry)) ⌝ }
 {
     let last = high - 1;
@@ -203,7 +238,7 @@ fn write_list(
     out: &mut [u64],
     at: usize,
 ) -> usize
-    requires { ⌜ ListRoom (length (now ends0)) (length (now ends1)) (now scratch) p q base next at (length (now out)) ⌝ }
+    requires { ⌜ ListRoom (now ends0) (now ends1) (now scratch) p q base next at (length (now out)) ⌝ }
     ensures { λ r. ⌜ r ≡ at + width (reportAt (now (scratch .entry)) p) ⌝ }
     ensures { λ _. ⌜ now (out .exit) ≡ placed at (listEnds (now (ends0 .entry)) (now (ends1 .entry)) (reportAt (now (scratch .entry)) p) (lowOf (reportAt (now (scratch .entry)) q)) base next) (now (out .entry)) ⌝ }
 {

@@ -41,7 +41,7 @@ returns : tie.Need-returns
 returns c =
     let t = c .before .before .before .before .before .before in
     let v = t .args in
-    one-more (v .at) _ (v .next) _ (v .out .now) _ (lists-long (v .by) (v .low) (v .high) (v .ends .now) (t .pre .0 .ordered) (t .pre .0 .within)) (omega (arith, t .pre .0 .fits, t .pre .1)) (c .before .before .put-ends .ensures)
+    one-more (v .at) _ (v .next) _ (v .out .now) _ (lists-long (v .by) (v .low) (v .high) (v .ends .now) (t .pre .0 .ordered) (t .pre .0 .within)) (omega (arith, t .pre .0 .fits, t .pre .1 .0)) (c .before .before .put-ends .ensures)
 
 pub put-lists-spec : {M : Type 1} → statement M
 put-lists-spec =

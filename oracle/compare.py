@@ -491,6 +491,7 @@ def words(text):
 
 KNOWN = "known: the walker's start"
 MERGES = ("merge", "whole")
+CALLS = ("check", "extract", "filter", "form", "form_unsorted", "meld", "split", "start", "step", "suffix", "survey", "walk") + MERGES
 
 def compare(case, mine, theirs):
     """None where they agree; else what differs."""
@@ -559,7 +560,7 @@ def main():
     p.add_argument("--run", default="")
     p.add_argument("--docs", default=os.path.join(TOP, "..", "shared", "docs", "src"))
     p.add_argument("--seed", type=int, default=1)
-    p.add_argument("--only")
+    p.add_argument("--only", choices=CALLS)
     p.add_argument("--random", type=int, default=2000)
     p.add_argument("--show", type=int, default=5)
     o = p.parse_args()

@@ -14,7 +14,7 @@ use Rattle.chunk.specs.Refusal.{written}
 use Rattle.laws.proofs.Tests.{by-test}
 use Rattle.retain.specs.declared.Corners.{Corners}
 use Rattle.retain.specs.declared.Verdict.{Verdict}
-use Rattle.retain.specs.Frontier.{isOpen, leastOf, most}
+use Rattle.retain.specs.Frontier.{isOpen, most}
 use Rattle.retain.specs.Extract.{keptOf, shippedOf, frontierOf, verdict}
 use Rattle.retain.specs.Found.{cornersOf, cornersAs}
 use Rattle.retain.specs.Answer.{verdictAs, verdictBy, refusedBy, extractedAs, Parted}
@@ -25,10 +25,6 @@ keep-times q [] = refl
 keep-times q (e ∷ es) = by-test (q (e .time)) (λ h. simp (h, keep-times q es)) (λ h. simp (h, keep-times q es))
 
 module _ (corners : List ℕ) (es : List Entry) where
-  pub its-frontier : leastOf (keep (isOpen corners) (times es)) ≡ frontierOf corners es
-  unfolding frontierOf keptOf
-  its-frontier = ap leastOf (sym (keep-times (isOpen corners) es))
-
   -- kept and shipped are all
   pub lengths : (fs : List Entry) → length (keptOf corners fs) + length (shippedOf corners fs) ≡ length fs
   unfolding keptOf shippedOf keep

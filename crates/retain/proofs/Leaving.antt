@@ -221,5 +221,5 @@ length-leavesOut m times diffEnds diffs n h =
     omega arith
 
 -- bodies that belong together, and corners in order, are what the test of a time asks for
-pub ready : (keys valEnds vals timeEnds times diffEnds diffs corners : List ℕ) → Bodies keys valEnds vals timeEnds times diffEnds diffs → ordered corners ≡ true → Ready times corners diffEnds
-ready keys valEnds vals timeEnds times diffEnds diffs corners b o = let r = b .timeRows in record { few = omega arith; steps = b .diffsStep; stairs = o }
+pub ready : (keys valEnds vals timeEnds times diffEnds diffs corners : List ℕ) → Bodies keys valEnds vals timeEnds times diffEnds diffs → ordered corners ≡ true → Ready corners diffEnds
+ready keys valEnds vals timeEnds times diffEnds diffs corners b o = record { steps = b .diffsStep; stairs = o }

@@ -292,14 +292,14 @@ module _ (times diffs : List ℕ) (r : Range) (rows : length diffs ≡ length ti
   pub diffs-count : length (part (r .lower) (r .upper) diffs) ≡ r .upper - r .lower
   diffs-count = length-part (r .lower) (r .upper) diffs (omega arith)
 
-  pub run-written : (out after : List ℕ) (n : ℕ) → n ≡ r .upper - r .lower → length out ≡ n + (n + n)
-      → after ≡ sets (sets (sets out 0 (part (r .lower) (r .upper) times)) (n + 0) (countUp 0 (length (part (r .lower) (r .upper) times)))) (n + n + 0) (part (r .lower) (r .upper) diffs)
+  pub run-written : (out after : List ℕ) → length out ≡ (r .upper - r .lower) + ((r .upper - r .lower) + (r .upper - r .lower))
+      → after ≡ sets (sets (sets out 0 (part (r .lower) (r .upper) times)) (length (part (r .lower) (r .upper) times)) (countUp 0 (length (part (r .lower) (r .upper) times)))) (length (part (r .lower) (r .upper) times) + length (part (r .lower) (r .upper) times)) (part (r .lower) (r .upper) diffs)
       → after ≡ runOut times diffs r
-  run-written out after n e l q =
+  run-written out after l q =
       let t = times-count in let d = diffs-count in
       let u : length (countUp 0 (r .upper - r .lower)) ≡ r .upper - r .lower = length-countUp 0 (r .upper - r .lower) in
-      q ∙ ap (λ (k : ℕ). sets (sets (sets out 0 (part (r .lower) (r .upper) times)) (n + 0) (countUp 0 k)) (n + n + 0) (part (r .lower) (r .upper) diffs)) t
-      ∙ fill-three (part (r .lower) (r .upper) times) (countUp 0 (r .upper - r .lower)) (part (r .lower) (r .upper) diffs) out (n + 0) (n + n + 0) (omega arith) (omega arith) (omega arith)
+      q ∙ ap (λ (n : ℕ). sets (sets (sets out 0 (part (r .lower) (r .upper) times)) n (countUp 0 n)) (n + n) (part (r .lower) (r .upper) diffs)) t
+      ∙ fill-three (part (r .lower) (r .upper) times) (countUp 0 (r .upper - r .lower)) (part (r .lower) (r .upper) diffs) out (r .upper - r .lower) ((r .upper - r .lower) + (r .upper - r .lower)) (omega arith) (omega arith) (omega arith)
 
   pub length-runOut : length (runOut times diffs r) ≡ (r .upper - r .lower) + ((r .upper - r .lower) + (r .upper - r .lower))
   length-runOut =

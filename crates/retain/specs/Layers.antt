@@ -85,9 +85,8 @@ EndsWithin ends n = (i : ℕ) → hasDiff ends i ≡ true → startOf ends i < n
 abbrev pub EndsStep : List ℕ → Type 0
 EndsStep ends = (i : ℕ) → i < length ends → (startOf ends i ≤ getD ends i 0) × (getD ends i 0 ≤ suc (startOf ends i))
 
--- what the test of a time asks for: a time for each end, ends that step, and corners in order
-pub record Ready (times corners diffEnds : List ℕ) : Type 0 where
-  pub few : length diffEnds ≤ length times
+-- what the test of a time asks for: ends that step, and corners in order
+pub record Ready (corners diffEnds : List ℕ) : Type 0 where
   pub steps : EndsStep diffEnds
   pub stairs : ordered corners ≡ true
 

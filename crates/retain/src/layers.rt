@@ -28,7 +28,7 @@ fn write_list(
     base: usize,
     out: &mut [u64],
 ) -> usize
-    requires { ⌜ Ready (now times) (now corners) (now «diff_ends») × ((length (now «diff_ends») ≡ length (now times)) × EndsWithin (now «diff_ends») (length (now diffs))) ⌝ }
+    requires { ⌜ Ready (now corners) (now «diff_ends») × ((length (now «diff_ends») ≡ length (now times)) × EndsWithin (now «diff_ends») (length (now diffs))) ⌝ }
     requires { ⌜ (from < to) × (to ≤ length (now times)) ⌝ }
     requires { ⌜ (base + (n + (n + n)) ≡ length (now out)) × Leaving (timeKept keep (now times) (now corners) (now «diff_ends»)) (now times) (now «diff_ends») (now diffs) n (drop base (now out)) done from ⌝ }
     ensures { λ r. ⌜ (take base (now (out .exit)) ≡ take base (now (out .entry))) × Leaving (timeKept keep (now (times .entry)) (now (corners .entry)) (now («diff_ends» .entry))) (now (times .entry)) (now («diff_ends» .entry)) (now (diffs .entry)) n (drop base (now (out .exit))) r to ⌝ }
@@ -69,7 +69,7 @@ fn write_values(
     base: usize,
     out: &mut [u64],
 ) -> Reached
-    requires { ⌜ Ready (now times) (now corners) (now «diff_ends») × ((length (now «diff_ends») ≡ length (now times)) × EndsWithin (now «diff_ends») (length (now diffs))) ⌝ }
+    requires { ⌜ Ready (now corners) (now «diff_ends») × ((length (now «diff_ends») ≡ length (now times)) × EndsWithin (now «diff_ends») (length (now diffs))) ⌝ }
     requires { ⌜ Over (now vals) (now «time_ends») (length (now times)) ⌝ }
     requires { ⌜ (from ≤ to) × (to ≤ length (now vals)) ⌝ }
     requires { ⌜ (base + ((nv + nv) + (nt + (nt + nt))) ≡ length (now out)) × Woven (timeKept keep (now times) (now corners) (now «diff_ends»)) (now vals) (now «time_ends») (now times) (now «diff_ends») (now diffs) nv nt (drop base (now out)) (reached .time) (reached .times) (reached .vals) from ⌝ }
@@ -171,5 +171,5 @@ pub(crate) fn write_layers(
         start = end;
         i += 1;
     }
-    count_up(0, nt, out, nk + nk + nv + nv + nt);
+    count_up(nt, out, nk + nk + nv + nv + nt);
 }

@@ -114,13 +114,7 @@ fn write_ranges(
         vals_in,
         &mut out[vals_at..times_at],
     );
-    write_run(
-        &times[lo..hi],
-        &diffs[lo..hi],
-        nt,
-        0,
-        &mut out[times_at..end],
-    );
+    write_run(&times[lo..hi], &diffs[lo..hi], &mut out[times_at..end]);
 }
 
 // Writes the chunk of a range of a settled chunk's entries.

@@ -1,4 +1,4 @@
-// Runs of neighbouring times that stay, written as a whole.
+// A range of times, written as a whole.
 ghost use mathlib.Core.Path.{_≡_};
 ghost use Prim.Native.Nat.{ℕ, _+_, _≤_, _<_};
 ghost use lib.ListN.{length};
@@ -17,24 +17,25 @@ pub(crate) fn copy(src: &[u64], dst: &mut [u64], at: usize)
     }
 }
 
-// Writes the numbers after `first`, so many of them, from a place on.
-pub(crate) fn count_up(first: usize, n: usize, dst: &mut [u64], at: usize)
-    requires { ⌜ (at + n ≤ length (now dst)) × (first ≤ at) ⌝ }
-    ensures { λ _. ⌜ now (dst .exit) ≡ sets (now (dst .entry)) at (countUp first n) ⌝ }
+// Writes 1, 2 and so on, so many of them, from a place on.
+pub(crate) fn count_up(n: usize, dst: &mut [u64], at: usize)
+    requires { ⌜ at + n ≤ length (now dst) ⌝ }
+    ensures { λ _. ⌜ now (dst .exit) ≡ sets (now (dst .entry)) at (countUp 0 n) ⌝ }
 {
     let mut i = 0;
     while i < n {
-        dst[at + i] = (first + i) as u64 + 1;
+        dst[at + i] = i as u64 + 1;
         i += 1;
     }
 }
 
-// Writes a run of times, the ends of their lists and their diffs behind those that are written, each into its own third.
-pub(crate) fn write_run(times: &[u64], diffs: &[u64], n: usize, at: usize, out: &mut [u64])
-    requires { ⌜ (length (now diffs) ≡ length (now times)) × ((at + length (now times) ≤ n) × (length (now out) ≡ n + (n + n))) ⌝ }
-    ensures { λ _. ⌜ now (out .exit) ≡ sets (sets (sets (now (out .entry)) at (now (times .entry))) (n + at) (countUp at (length (now (times .entry))))) (n + n + at) (now (diffs .entry)) ⌝ }
+// Writes times, the ends of their lists and their diffs, each into its own third.
+pub(crate) fn write_run(times: &[u64], diffs: &[u64], out: &mut [u64])
+    requires { ⌜ (length (now diffs) ≡ length (now times)) × (length (now out) ≡ length (now times) + (length (now times) + length (now times))) ⌝ }
+    ensures { λ _. ⌜ now (out .exit) ≡ sets (sets (sets (now (out .entry)) 0 (now (times .entry))) (length (now (times .entry))) (countUp 0 (length (now (times .entry))))) (length (now (times .entry)) + length (now (times .entry))) (now (diffs .entry)) ⌝ }
 {
-    copy(times, out, at);
-    count_up(at, times.len(), out, n + at);
-    copy(diffs, out, n + n + at);
+    let n = times.len();
+    copy(times, out, 0);
+    count_up(n, out, n);
+    copy(diffs, out, n + n);
 }

@@ -30,7 +30,7 @@ fn both_values(
     to: usize,
     at: usize,
 ) -> Values
-    requires { ⌜ Ready (now times) (now corners) (now «diff_ends») × AllDiffs (now times) (now «diff_ends») ⌝ }
+    requires { ⌜ Ready (now corners) (now «diff_ends») × AllDiffs (now times) (now «diff_ends») ⌝ }
     requires { ⌜ RisesTo (now «time_ends») (length (now times)) × ((to ≤ length (now «time_ends»)) × (at ≡ startOf (now «time_ends») from)) ⌝ }
     ensures { λ r. ⌜ r .open ≡ countKept (listKept (timeKept Open (now (times .entry)) (now (corners .entry)) (now («diff_ends» .entry))) (now («time_ends» .entry))) from (to - from) ⌝ }
     ensures { λ r. ⌜ r .shut ≡ countKept (listKept (timeKept Shut (now (times .entry)) (now (corners .entry)) (now («diff_ends» .entry))) (now («time_ends» .entry))) from (to - from) ⌝ }
@@ -58,7 +58,7 @@ fn count_both(
     time_ends: &[u64],
     val_ends: &[u64],
 ) -> Both
-    requires { ⌜ Ready (now times) (now corners) (now «diff_ends») × AllDiffs (now times) (now «diff_ends») ⌝ }
+    requires { ⌜ Ready (now corners) (now «diff_ends») × AllDiffs (now times) (now «diff_ends») ⌝ }
     requires { ⌜ RisesTo (now «time_ends») (length (now times)) × RisesTo (now «val_ends») (length (now «time_ends»)) ⌝ }
     ensures { λ r. ⌜ ListsLeft (listKept (timeKept Open (now (times .entry)) (now (corners .entry)) (now («diff_ends» .entry))) (now («time_ends» .entry))) (now («val_ends» .entry)) (r .«open_keys») (r .«open_vals») ⌝ }
     ensures { λ r. ⌜ ListsLeft (listKept (timeKept Shut (now (times .entry)) (now (corners .entry)) (now («diff_ends» .entry))) (now («time_ends» .entry))) (now («val_ends» .entry)) (r .«shut_keys») (r .«shut_vals») ⌝ }

@@ -24,99 +24,75 @@ Inv-loop keep corners keys val-ends vals time-ends times diff-ends diffs nk nv n
 abbrev μ-loop : tie.MeasureT-loop
 μ-loop keep corners keys val-ends vals time-ends times diff-ends diffs nk nv nt out₀ start₀ time₀ written₀ total₀ at₀ i₀ out start time written total at i = length keys - i
 
--- src/layers.rt:142:5
 loop-holds : tie.Need-loop-holds Inv-loop μ-loop
 loop-holds c = let a = c .before .before .before .before .before .before .before .before .before in let b = a .pre .1 .0 in (b, (omega arith, layers-start _ _ _ _ _ _ _ _ b _ _ _ _ (a .pre .1 .1 .0) (a .pre .1 .1 .1)))
 
--- src/layers.rt:143:19
 mul-end : tie.Need-mul-end Inv-loop μ-loop
 mul-end c = let a = c .before .before .before .before .before .before .before .before .before .before .before in let l = c .before .loop in let b = l .inv .0 in let w = l .inv .1 .1 in let z = w .size in let t = c .loop-test .taken in let h = layers-within _ _ _ _ _ _ _ _ b _ _ _ _ _ _ _ _ _ (l .i) w t in omega (arith, a .good)
 
--- src/layers.rt:143:19
 shared-slice-read-end : tie.Need-shared-slice-read-end Inv-loop μ-loop
 shared-slice-read-end c = let a = c .before .before .before .before .before .before .before .before .before .before .before .before in let l = c .before .before .loop in let b = l .inv .0 in let w = l .inv .1 .1 in let z = w .size in let t = c .before .loop-test .taken in let h = layers-within _ _ _ _ _ _ _ _ b _ _ _ _ _ _ _ _ _ (l .i) w t in let o = b .overVals .rows in omega arith
 
--- src/layers.rt:161:13
 add-write-values : tie.Need-add-write-values Inv-loop μ-loop
 add-write-values c = let a = c .before .before .before .before .before .before .before .before .before .before .before .before in let l = c .before .before .loop in let b = l .inv .0 in let w = l .inv .1 .1 in let z = w .size in let t = c .before .loop-test .taken in let h = layers-within _ _ _ _ _ _ _ _ b _ _ _ _ _ _ _ _ _ (l .i) w t in omega (arith, a .good)
 
--- src/layers.rt:144:13
 write-values-requires : tie.Need-write-values-requires Inv-loop μ-loop
 write-values-requires c κs = let a = c .before .before .before .before .before .before .before .before .before .before .before .before .before in let l = c .before .before .before .loop in let b = l .inv .0 in let w = l .inv .1 .1 in let z = w .size in let t = c .before .before .loop-test .taken in let h = layers-within _ _ _ _ _ _ _ _ b _ _ _ _ _ _ _ _ _ (l .i) w t in ((ready _ _ _ _ _ _ _ _ b (a .pre .0), (b .timeRows, b .diffsWithin)), (b .overTimes, (next-values _ _ _ _ _ _ _ _ b _ _ _ _ _ _ _ _ _ (l .i) w t, (sym z, w .woven))))
 
--- src/layers.rt:165:19
 mul-out : tie.Need-mul-out Inv-loop μ-loop
 mul-out c = let a = c .before .before .before .before .before .before .before .before .before .before .before .before .before .before .before .before in let l = c .before .before .before .before .before .before .loop in let b = l .inv .0 in let w = l .inv .1 .1 in let z = w .size in let t = c .before .before .before .before .before .loop-test .taken in let h = layers-within _ _ _ _ _ _ _ _ b _ _ _ _ _ _ _ _ _ (l .i) w t in omega (arith, a .good)
 
--- src/layers.rt:165:19
 shared-slice-read-out : tie.Need-shared-slice-read-out Inv-loop μ-loop
 shared-slice-read-out c = let a = c .before .before .before .before .before .before .before .before .before .before .before .before .before .before .before .before .before in let l = c .before .before .before .before .before .before .before .loop in let b = l .inv .0 in let w = l .inv .1 .1 in let z = w .size in let t = c .before .before .before .before .before .before .loop-test .taken in let h = layers-within _ _ _ _ _ _ _ _ b _ _ _ _ _ _ _ _ _ (l .i) w t in h
 
--- src/layers.rt:165:9
 mul-out-2 : tie.Need-mul-out-2 Inv-loop μ-loop
 mul-out-2 c = let a = c .before .before .before .before .before .before .before .before .before .before .before .before .before .before .before .before .before in let l = c .before .before .before .before .before .before .before .loop in let b = l .inv .0 in let w = l .inv .1 .1 in let z = w .size in let t = c .before .before .before .before .before .before .loop-test .taken in let h = layers-within _ _ _ _ _ _ _ _ b _ _ _ _ _ _ _ _ _ (l .i) w t in omega (arith, a .good)
 
--- src/layers.rt:165:9
 slice-write-out : tie.Need-slice-write-out Inv-loop μ-loop
 slice-write-out c = let a = c .before .before .before .before .before .before .before .before .before .before .before .before .before .before .before .before .before in let l = c .before .before .before .before .before .before .before .loop in let b = l .inv .0 in let w = l .inv .1 .1 in let z = w .size in let t = c .before .before .before .before .before .before .loop-test .taken in let h = layers-within _ _ _ _ _ _ _ _ b _ _ _ _ _ _ _ _ _ (l .i) w t in let r = c .before .before .before .write-values in let n = r .kept .1 .1 .1 .1 .1 .1 .1 .1 .1 .1 .1 .1 .1 .0 in omega (arith, n)
 
--- src/layers.rt:166:13
 add-out : tie.Need-add-out Inv-loop μ-loop
 add-out c = let a = c .before .before .before .before .before .before .before .before .before .before .before .before .before .before .before .before .before in let l = c .before .before .before .before .before .before .before .loop in let b = l .inv .0 in let w = l .inv .1 .1 in let z = w .size in let t = c .before .before .before .before .before .before .loop-test .taken in let h = layers-within _ _ _ _ _ _ _ _ b _ _ _ _ _ _ _ _ _ (l .i) w t in omega (arith, a .good)
 
--- src/layers.rt:166:9
 mul-out-3 : tie.Need-mul-out-3 Inv-loop μ-loop
 mul-out-3 c = let a = c .before .before .before .before .before .before .before .before .before .before .before .before .before .before .before .before .before in let l = c .before .before .before .before .before .before .before .loop in let b = l .inv .0 in let w = l .inv .1 .1 in let z = w .size in let t = c .before .before .before .before .before .before .loop-test .taken in let h = layers-within _ _ _ _ _ _ _ _ b _ _ _ _ _ _ _ _ _ (l .i) w t in omega (arith, a .good)
 
--- src/layers.rt:166:9
 slice-write-out-2 : tie.Need-slice-write-out-2 Inv-loop μ-loop
 slice-write-out-2 c = let a = c .before .before .before .before .before .before .before .before .before .before .before .before .before .before .before .before .before in let l = c .before .before .before .before .before .before .before .loop in let b = l .inv .0 in let w = l .inv .1 .1 in let z = w .size in let t = c .before .before .before .before .before .before .loop-test .taken in let h = layers-within _ _ _ _ _ _ _ _ b _ _ _ _ _ _ _ _ _ (l .i) w t in let r = c .before .before .before .write-values in let n = r .kept .1 .1 .1 .1 .1 .1 .1 .1 .1 .1 .1 .1 .1 .0 in simp length-set (omega (arith, n))
 
--- src/layers.rt:167:13
 bit-of-requires : tie.Need-bit-of-requires Inv-loop μ-loop
 bit-of-requires c κs = search needs
 
--- src/layers.rt:168:9
 add-at : tie.Need-add-at Inv-loop μ-loop
 add-at c = let a = c .before .before .before .before .before .before .before .before .before .before .before .before .before .before .before .before .before .before in let l = c .before .before .before .before .before .before .before .before .loop in let b = l .inv .0 in let w = l .inv .1 .1 in let z = w .size in let t = c .before .before .before .before .before .before .before .loop-test .taken in let h = layers-within _ _ _ _ _ _ _ _ b _ _ _ _ _ _ _ _ _ (l .i) w t in let o = bit-one _ _ (c .bit-of .ensures) in omega (arith, a .good)
 
--- src/layers.rt:173:9
 add-i : tie.Need-add-i Inv-loop μ-loop
 add-i c = let a = c .before .before .before .before .before .before .before .before .before .before .before .before .before .before .before .before .before .before in let l = c .before .before .before .before .before .before .before .before .loop in let b = l .inv .0 in let w = l .inv .1 .1 in let z = w .size in let t = c .before .before .before .before .before .before .before .loop-test .taken in let h = layers-within _ _ _ _ _ _ _ _ b _ _ _ _ _ _ _ _ _ (l .i) w t in omega (arith, a .good)
 
--- src/layers.rt:142:5
 loop-less : tie.Need-loop-less Inv-loop μ-loop
 loop-less c = let a = c .before .before .before .before .before .before .before .before .before .before .before .before .before .before .before .before .before .before in let l = c .before .before .before .before .before .before .before .before .loop in let b = l .inv .0 in let w = l .inv .1 .1 in let z = w .size in let t = c .before .before .before .before .before .before .before .loop-test .taken in let h = layers-within _ _ _ _ _ _ _ _ b _ _ _ _ _ _ _ _ _ (l .i) w t in omega arith
 
--- src/layers.rt:142:5
 loop-again : tie.Need-loop-again Inv-loop μ-loop
 loop-again c = let a = c .before .before .before .before .before .before .before .before .before .before .before .before .before .before .before .before .before .before in let l = c .before .before .before .before .before .before .before .before .loop in let b = l .inv .0 in let w = l .inv .1 .1 in let z = w .size in let t = c .before .before .before .before .before .before .before .loop-test .taken in let h = layers-within _ _ _ _ _ _ _ _ b _ _ _ _ _ _ _ _ _ (l .i) w t in let r = c .before .before .before .before .write-values in let n = r .kept .1 .1 .1 .1 .1 .1 .1 .1 .1 .1 .1 .1 .1 .0 in (b, (omega arith, layers-next _ _ _ _ _ _ _ _ b _ _ _ (l .out) _ _ _ _ _ _ (l .at) (l .i) _ _ _ _ w t n (r .ensures .0) (r .ensures .1) (c .bit-of .ensures) refl))
 
--- src/layers.rt:175:26
 add-count-up : tie.Need-add-count-up Inv-loop μ-loop
 add-count-up c = let a = c .before .before .before .before .before .before .before .before .before .before .before .before in let l = c .before .before .loop in let b = l .inv .0 in let w = l .inv .1 .1 in let z = w .size in omega (arith, a .good)
 
--- src/layers.rt:175:26
 add-count-up-2 : tie.Need-add-count-up-2 Inv-loop μ-loop
 add-count-up-2 c = let a = c .before .before .before .before .before .before .before .before .before .before .before .before in let l = c .before .before .loop in let b = l .inv .0 in let w = l .inv .1 .1 in let z = w .size in omega (arith, a .good)
 
--- src/layers.rt:175:26
 add-count-up-3 : tie.Need-add-count-up-3 Inv-loop μ-loop
 add-count-up-3 c = let a = c .before .before .before .before .before .before .before .before .before .before .before .before in let l = c .before .before .loop in let b = l .inv .0 in let w = l .inv .1 .1 in let z = w .size in omega (arith, a .good)
 
--- src/layers.rt:175:26
 add-count-up-4 : tie.Need-add-count-up-4 Inv-loop μ-loop
 add-count-up-4 c = let a = c .before .before .before .before .before .before .before .before .before .before .before .before in let l = c .before .before .loop in let b = l .inv .0 in let w = l .inv .1 .1 in let z = w .size in omega (arith, a .good)
 
--- src/layers.rt:175:5
 count-up-requires : tie.Need-count-up-requires Inv-loop μ-loop
-count-up-requires c κs = let a = c .before .before .before .before .before .before .before .before .before .before .before .before in let l = c .before .before .loop in let b = l .inv .0 in let w = l .inv .1 .1 in let z = w .size in (omega arith, omega arith)
+count-up-requires c κs = let a = c .before .before .before .before .before .before .before .before .before .before .before .before in let l = c .before .before .loop in let b = l .inv .0 in let w = l .inv .1 .1 in let z = w .size in omega arith
 
--- src/layers.rt:115:1
 same-length : tie.Need-same-length Inv-loop μ-loop
-same-length c = let a = c .before .before .before .before .before .before .before .before .before .before .before .before .before .before .before in let l = c .before .before .before .before .before .loop in let b = l .inv .0 in let w = l .inv .1 .1 in let z = w .size in c .before .before .count-up .kept .1 .1 .0 ∙ z ∙ sym (a .pre .1 .1 .1)
+same-length c = let a = c .before .before .before .before .before .before .before .before .before .before .before .before .before .before .before in let l = c .before .before .before .before .before .loop in let b = l .inv .0 in let w = l .inv .1 .1 in let z = w .size in c .before .before .count-up .kept .1 .0 ∙ z ∙ sym (a .pre .1 .1 .1)
 
--- src/layers.rt:115:1
 returns : tie.Need-returns Inv-loop μ-loop
 returns c = let a = c .before .before .before .before .before .before .before .before .before .before .before .before .before .before .before in let l = c .before .before .before .before .before .loop in let b = l .inv .0 in let w = l .inv .1 .1 in let z = w .size in c .before .before .count-up .ensures ∙ layers-end _ _ _ _ _ _ _ _ b _ _ _ (l .out) _ _ _ _ (l .at) (l .i) _ w (l .inv .1 .0) (c .before .before .before .before .loop-test .left) (omega arith)
 

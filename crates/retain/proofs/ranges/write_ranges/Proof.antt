@@ -14,9 +14,6 @@ use borrow.Author.Needs.{needs}
 use Rattle.retain.proofs.ranges.write_ranges.Statement.{statement}
 use Rattle.retain.proofs.ranges.write_ranges.Tie as tie
 
-rows : (a b : ℕ) → a ≡ b → 0 + a ≤ b
-rows a b e = omega arith
-
 -- the range of the times is in order, and its start is small
 run-order : {keys valEnds vals timeEnds times : List ℕ} {ks vs ts : Range} {room : ℕ} → Ranged keys valEnds vals timeEnds times ks vs ts room → ts .lower ≤ ts .upper
 run-order r = omega (arith, r .valsIn .filled)
@@ -115,7 +112,7 @@ write-run-requires c κs =
     let a = c .before .before .before .before .before .before .before .before .before .before .before .before .before .before .before .before .before .before .before .before .before .before .before .before .before in let u = range-cuts (a .pre .0) (a .pre .1) (c .before .before .before .before .before .before .before .before .before .before .before .before .before .before .before .layout .ensures) in
     let t = times-count (a .args .times .now) (a .args .diffs .now) (a .args .times-in) (a .pre .0 .timeRows) (a .pre .1 .timesIn) in
     let d = diffs-count (a .args .times .now) (a .args .diffs .now) (a .args .times-in) (a .pre .0 .timeRows) (a .pre .1 .timesIn) in
-    (d ∙ sym t, (rows _ _ t, part-length _ _ _ _ (u .times) (within-as _ _ _ (u .timesIn) (c .before .before .before .before .out3 .given .1 ∙ c .before .before .before .before .before .before .before .before .out2 .given .1 ∙ c .before .before .before .before .before .before .before .before .before .before .before .before .before .write-table .kept .0))))
+    (d ∙ sym t, rw t (part-length _ _ _ _ (u .times) (within-as _ _ _ (u .timesIn) (c .before .before .before .before .out3 .given .1 ∙ c .before .before .before .before .before .before .before .before .out2 .given .1 ∙ c .before .before .before .before .before .before .before .before .before .before .before .before .before .write-table .kept .0))))
 
 same-length : tie.Need-same-length
 same-length c = c .before .out4 .given .1 ∙ c .before .before .before .before .before .before .before .out3 .given .1 ∙ c .before .before .before .before .before .before .before .before .before .before .before .out2 .given .1 ∙ c .before .before .before .before .before .before .before .before .before .before .before .before .before .before .before .before .write-table .kept .0
@@ -130,7 +127,7 @@ returns c =
     (rangeOut (a .args .keys .now) (a .args .val-ends .now) (a .args .vals-in) (a .args .keys-in)) (rangeOut (a .args .vals .now) (a .args .time-ends .now) (a .args .times-in) (a .args .vals-in)) (runOut (a .args .times .now) (a .args .diffs .now) (a .args .times-in)) _ _ _ (l .«keys_at») (l .«vals_at») (l .«times_at») (l .size)
     (c .before .before .before .before .before .before .before .before .before .before .before .before .before .before .before .before .write-table .ensures ∙ table-front _ _ _ _ (a .args .out .now) (u .tableIn))
     (c .before .before .before .before .before .before .before .before .before .before .before .before .write-range .ensures) (c .before .before .before .before .before .before .before .before .write-range2 .ensures)
-    (run-written (a .args .times .now) (a .args .diffs .now) (a .args .times-in) (p .timeRows) (q .timesIn) _ _ _ refl (part-length _ _ _ _ (u .times) (within-as _ _ _ (u .timesIn) (c .before .before .before .before .before .before .before .out3 .given .1 ∙ c .before .before .before .before .before .before .before .before .before .before .before .out2 .given .1 ∙ c .before .before .before .before .before .before .before .before .before .before .before .before .before .before .before .before .write-table .kept .0))) (c .before .before .write-run .ensures))
+    (run-written (a .args .times .now) (a .args .diffs .now) (a .args .times-in) (p .timeRows) (q .timesIn) _ _ (part-length _ _ _ _ (u .times) (within-as _ _ _ (u .timesIn) (c .before .before .before .before .before .before .before .out3 .given .1 ∙ c .before .before .before .before .before .before .before .before .before .before .before .out2 .given .1 ∙ c .before .before .before .before .before .before .before .before .before .before .before .before .before .before .before .before .write-table .kept .0))) (c .before .before .write-run .ensures))
     (u .keysAt)
     (u .keys ∙ ap (λ (n : ℕ). l .«keys_at» + n) (sym (length-rangeOut (a .args .keys .now) (a .args .val-ends .now) (a .args .vals-in) (a .args .keys-in) (p .overVals .rows) (q .keysIn))))
     (u .vals ∙ ap (λ (n : ℕ). l .«vals_at» + n) (sym (length-rangeOut (a .args .vals .now) (a .args .time-ends .now) (a .args .times-in) (a .args .vals-in) (p .overTimes .rows) (q .valsIn))))

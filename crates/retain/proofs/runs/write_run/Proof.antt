@@ -12,17 +12,11 @@ use Rattle.retain.proofs.runs.write_run.Tie as tie
 copy-requires : tie.Need-copy-requires
 copy-requires c κs = search needs
 
-add-count-up : tie.Need-add-count-up
-add-count-up c = search needs
-
 count-up-requires : tie.Need-count-up-requires
 count-up-requires c κs = search needs
 
 add-copy : tie.Need-add-copy
 add-copy c = search needs
-
-add-copy-2 : tie.Need-add-copy-2
-add-copy-2 c = search needs
 
 copy-requires-2 : tie.Need-copy-requires-2
 copy-requires-2 c κs = search needs
@@ -33,18 +27,11 @@ same-length c = search needs
 returns : tie.Need-returns
 returns c =
     let a = c .before .before .before .before .before .before .before .before .before .before .before .before .before .before .before .args in
+    let n = length (a .times .now) in
     c .before .before .copy2 .ensures
-    ∙ ap (λ (l : List ℕ). sets l (a .n + a .n + a .at) (a .diffs .now)) (c .before .before .before .before .before .before .count-up .ensures ∙ ap (λ (l : List ℕ). sets l (a .n + a .at) (countUp (a .at) (length (a .times .now)))) (c .before .before .before .before .before .before .before .before .before .before .copy .ensures))
+    ∙ ap (λ (l : List ℕ). sets l (n + n) (a .diffs .now)) (c .before .before .before .before .before .before .count-up .ensures ∙ ap (λ (l : List ℕ). sets l n (countUp 0 n)) (c .before .before .before .before .before .before .before .before .before .before .copy .ensures))
 
 pub write-run-spec : {M : Type 1} → statement M
 write-run-spec =
     tie.close
-    (tie.spec
-    copy-requires
-    add-count-up
-    count-up-requires
-    add-copy
-    add-copy-2
-    copy-requires-2
-    same-length
-    returns)
+    (tie.spec copy-requires count-up-requires add-copy copy-requires-2 same-length returns)

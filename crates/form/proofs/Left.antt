@@ -2,7 +2,7 @@
 -- Each law unfolds a definition by one update, or ends it.
 use Prim.Native.Nat.{ℕ, suc, _≤_, _<_, _+_, _-_, _^_, zero-le}
 use mathlib.Core.Path.{_≡_, refl, sym, _∙_, ap}
-use mathlib.Core.Bool.{Bool, true, false, _&&_}
+use mathlib.Core.Bool.{Bool, true, false, _&&_, _||_}
 use mathlib.Core.List.{List, [], _∷_}
 use native.Mathlib.Omega.{arith}
 use native.Mathlib.Numerals.{add-one, add-two, add-three, add-four}
@@ -22,8 +22,10 @@ use Rattle.laws.proofs.Tests.{by-test, and-false}
 use Rattle.laws.proofs.Order.{Same, same-parts}
 use Rattle.form.specs.declared.Update.{Update}
 use Rattle.form.specs.declared.Counts.{Counts}
+use Rattle.form.specs.declared.Sizes.{Sizes}
 use Rattle.form.specs.Form.{consolidated, formed, falls, inRange}
-use Rattle.form.specs.Pass.{entryOf, updateAt, noUpdate, noCounts, joined, countFrom, writeFrom, pushed, pushedOut, nextCounts, nextPending, nextOut, surveyNumber, Surveyed}
+use Rattle.form.specs.Pass.{entryOf, updateAt, noUpdate, joined, countFrom, writeFrom, pushed, pushedOut, nextCounts, nextPending, nextOut, surveyNumber, finalCounts, sizesOf, Surveyed}
+use Rattle.form.specs.Tally.{noSizes}
 use Rattle.form.proofs.Formed.{falls-same}
 
 -- ---- the words that are left
@@ -116,16 +118,12 @@ module _ (c : Counts) (a : Entry) where
   unfolding writeFrom consolidated
   write-done p out = by-test (stands a) (λ (t : stands a ≡ true). rw t) (λ (t : stands a ≡ false). rw t)
 
-pub falls-turn : (a b : Entry) (es : List Entry) → before b a ≡ false → falls (a ∷ b ∷ es) ≡ falls (nextPending a b ∷ es)
+pub falls-turn : (a b : Entry) (es : List Entry) → falls (a ∷ b ∷ es) ≡ (before b a || falls (nextPending a b ∷ es))
 unfolding falls
-falls-turn a b es h =
+falls-turn a b es =
     by-test (same a b)
-    (λ (s : same a b ≡ true). rw (h, s) (sym (falls-same (joined a b) b es s)))
-    (λ (s : same a b ≡ false). rw (h, s))
-
-pub falls-here : (a b : Entry) (es : List Entry) → before b a ≡ true → falls (a ∷ b ∷ es) ≡ true
-unfolding falls
-falls-here a b es h = rw h
+    (λ (s : same a b ≡ true). rw s (ap (λ (t : Bool). before b a || t) (sym (falls-same (joined a b) b es s))))
+    (λ (s : same a b ≡ false). rw s)
 
 and-assoc : (a b d : Bool) → (a && (b && d)) ≡ ((a && b) && d)
 and-assoc true b d = refl
@@ -138,23 +136,23 @@ range-turn t b es = and-assoc t (inRange b) (every inRange es)
 -- ---- what the first pass answers
 
 module _ (es : List Entry) where
-  pub answers-3 : falls es ≡ true → Surveyed es (record { number = 3; counts = noCounts })
+  pub answers-3 : falls es ≡ true → Surveyed es (record { number = 3; sizes = noSizes })
   unfolding surveyNumber first
-  answers-3 h = record { number = rw h; counts = λ z. absurd (three (rw h at z)) }
+  answers-3 h = record { number = rw h; sizes = λ z. absurd (three (rw h at z)) }
     where
       three : _≡_ {A = ℕ} 3 0 → ⊥
       three q = omega arith
 
-  pub answers-4 : falls es ≡ false → every inRange es ≡ false → Surveyed es (record { number = 4; counts = noCounts })
+  pub answers-4 : falls es ≡ false → every inRange es ≡ false → Surveyed es (record { number = 4; sizes = noSizes })
   unfolding surveyNumber first
-  answers-4 h k = record { number = rw (h, k); counts = λ z. absurd (four (rw (h, k) at z)) }
+  answers-4 h k = record { number = rw (h, k); sizes = λ z. absurd (four (rw (h, k) at z)) }
     where
       four : _≡_ {A = ℕ} 4 0 → ⊥
       four q = omega arith
 
-  pub answers-0 : (c : Counts) → falls es ≡ false → every inRange es ≡ true → c ≡ countFrom noCounts (formed es) → Surveyed es (record { number = 0; counts = c })
+  pub answers-0 : (s : Sizes) → falls es ≡ false → every inRange es ≡ true → s ≡ sizesOf (finalCounts es) → Surveyed es (record { number = 0; sizes = s })
   unfolding surveyNumber first
-  answers-0 c h k q = record { number = rw (h, k); counts = λ z. q }
+  answers-0 s h k q = record { number = rw (h, k); sizes = λ z. q }
 
 -- ---- the range alone
 

@@ -9,6 +9,7 @@ pub mod Runs
 pub mod Says
 pub mod Sorted
 pub mod Step
+pub mod Tallying
 pub mod Underway
 pub mod Unsorted
 pub mod Whole

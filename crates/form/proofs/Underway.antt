@@ -1,22 +1,22 @@
--- A pass on its way through the words: its counts and the pending update give, with the updates that are left, the counts of all that is
--- formed. Both passes keep this; the first also keeps its two tests, the second what is written.
+-- The second pass on its way through the words: its counts and the pending update give, with the updates that are left, the counts of all
+-- that is formed, and all that is written.
 use Prim.Native.Nat.{ℕ, _≤_, _<_, _+_, _^_}
 use mathlib.Core.Path.{_≡_, refl, sym, _∙_, ap, subst}
-use mathlib.Core.Bool.{Bool, true, false, cond, _&&_}
+use mathlib.Core.Bool.{Bool, true, false, cond}
 use mathlib.Core.List.{List, [], _∷_}
 use native.Mathlib.Omega.{arith}
 use lib.ListN.{length, getD, drop}
 use Rattle.chunk.specs.declared.Contents.{Contents}
 use Rattle.chunk.specs.Contents.{layoutOf}
-use Rattle.chunk.specs.Entry.{Entry, before, every}
+use Rattle.chunk.specs.Entry.{Entry}
 use Rattle.sort.specs.Sort.{updates}
 use Rattle.form.specs.declared.Update.{Update}
 use Rattle.form.specs.declared.Counts.{Counts}
 use Rattle.form.specs.declared.Consolidating.{Consolidating}
-use Rattle.form.specs.Form.{consolidated, formed, falls, inRange}
+use Rattle.form.specs.Form.{consolidated, formed}
 use Rattle.form.specs.Pass.{entryOf, updateAt, noUpdate, noCounts, counted, opensKey, opensVal, countFrom, writeFrom, pushed, pushedOut, nextCounts, nextPending, nextOut, finalCounts, Counting, Roomy, Taken, Stored, Placed}
 use Rattle.form.proofs.Step.{counting-next}
-use Rattle.form.proofs.Left.{turn, done, starts, starts-falls, count-turn, count-done, write-turn, write-done, falls-turn, falls-here, range-more, range-done}
+use Rattle.form.proofs.Left.{turn, done, starts, count-turn, count-done, write-turn, write-done}
 
 pub wider : {m n : ℕ} {c : Counts} → m ≤ n → Counting m c → Counting n c
 wider l h = record { keys = omega (arith, h); vals = omega (arith, h); times = omega (arith, h); keyed = h .keyed; valued = h .valued }
@@ -30,12 +30,6 @@ pub record Underway (w : List ℕ) (at : ℕ) (s : Consolidating) : Type 0 where
   pub counting : Counting at (s .counts)
   pub within : at ≤ length w
   pub counts : finalCounts (updates w) ≡ countFrom (s .counts) (consolidated (entryOf (s .pending)) (updates (drop at w)))
-
--- the first pass keeps its two tests too
-pub record Surveying (w : List ℕ) (at : ℕ) (s : Consolidating) (inside : Bool) : Type 0 where
-  pub underway : Underway w at s
-  pub falling : falls (updates w) ≡ falls (entryOf (s .pending) ∷ updates (drop at w))
-  pub ranging : every inRange (updates w) ≡ (inside && every inRange (updates (drop at w)))
 
 -- the second keeps what is written
 pub record Writing (w : List ℕ) (p : Contents) (before after : List ℕ) (at : ℕ) (s : Consolidating) : Type 0 where
@@ -51,9 +45,6 @@ module _ (w : List ℕ) (h : getD w 3 0 < 2 ^ 64) where
         within = omega arith;
         counts = ap (λ (es : List Entry). countFrom noCounts es) (starts w h);
       }
-
-  pub surveying-starts : Surveying w 0 fresh true
-  surveying-starts = record { underway = underway-starts; falling = starts-falls (updates w); ranging = refl }
 
   pub writing-starts : (p : Contents) (out : List ℕ) → Writing w p out out 0 fresh
   writing-starts p out =
@@ -78,22 +69,6 @@ module _ (w : List ℕ) (at : ℕ) (s r : Consolidating) (u : Update) (more : at
             ∙ count-turn (s .counts) (entryOf (s .pending)) (entryOf u) (updates (drop (at + 4) w))
             ∙ ap (λ (c : Counts). countFrom c (consolidated (nextPending (entryOf (s .pending)) (entryOf u)) (updates (drop (at + 4) w)))) (sym (t .counts))
             ∙ ap (λ (e : Entry). countFrom (r .counts) (consolidated e (updates (drop (at + 4) w)))) (sym (t .pending));
-      }
-
-  pub surveying-turn : (inside after : Bool) → Surveying w at s inside → before (entryOf u) (entryOf (s .pending)) ≡ false → after ≡ (inside && inRange (entryOf u))
-      → Surveying w (at + 4) r after
-  surveying-turn inside after h f e =
-      record {
-        underway = underway-turn (h .underway);
-        falling =
-            h .falling
-            ∙ ap (λ (es : List Entry). falls (entryOf (s .pending) ∷ es)) opened
-            ∙ falls-turn (entryOf (s .pending)) (entryOf u) (updates (drop (at + 4) w)) f
-            ∙ ap (λ (e : Entry). falls (e ∷ updates (drop (at + 4) w))) (sym (t .pending));
-        ranging =
-            h .ranging
-            ∙ range-more w at inside u more q
-            ∙ ap (λ (b : Bool). b && every inRange (updates (drop (at + 4) w))) (sym e);
       }
 
   pub writing-turn : (p : Contents) (first out after : List ℕ) → Writing w p first out at s → Stored p s u out r after → length after ≡ length out
@@ -150,27 +125,12 @@ roomy es p first out c h l b =
 
 -- ---- at the last update
 
--- a position that falls, found on the way
-pub surveying-falls : (w : List ℕ) (at : ℕ) (s : Consolidating) (inside : Bool) (u : Update) → Surveying w at s inside → at + 3 < length w → u ≡ updateAt w at
-    → before (entryOf u) (entryOf (s .pending)) ≡ true → falls (updates w) ≡ true
-surveying-falls w at s inside u h more q f =
-    h .falling
-    ∙ ap (λ (es : List Entry). falls (entryOf (s .pending) ∷ es)) (turn w at more ∙ ap (λ (x : Update). entryOf x ∷ updates (drop (at + 4) w)) (sym q))
-    ∙ falls-here (entryOf (s .pending)) (entryOf u) (updates (drop (at + 4) w)) f
-
 module _ (w : List ℕ) (at : ℕ) (s : Consolidating) (over : length w ≤ at + 3) where
   pub underway-ends : Underway w at s → finalCounts (updates w) ≡ pushed (s .counts) (entryOf (s .pending))
   underway-ends h =
       h .counts
       ∙ ap (λ (es : List Entry). countFrom (s .counts) (consolidated (entryOf (s .pending)) es)) (done w at over)
       ∙ count-done (s .counts) (entryOf (s .pending))
-
-  pub ends-falls : (inside : Bool) → Surveying w at s inside → falls (updates w) ≡ false
-  unfolding falls
-  ends-falls inside h = h .falling ∙ ap (λ (es : List Entry). falls (entryOf (s .pending) ∷ es)) (done w at over)
-
-  pub ends-range : (inside : Bool) → Surveying w at s inside → every inRange (updates w) ≡ inside
-  ends-range inside h = h .ranging ∙ range-done w at inside over
 
   pub writing-ends : (p : Contents) (first out : List ℕ) → Writing w p first out at s
       → writeFrom p noCounts (formed (updates w)) first ≡ pushedOut p (s .counts) (entryOf (s .pending)) out

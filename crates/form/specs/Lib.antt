@@ -1,3 +1,4 @@
 pub mod Form
 pub mod Pass
+pub mod Tally
 pub mod Theorems

@@ -15,6 +15,7 @@ use Rattle.chunk.specs.Words.{limit}
 use Rattle.form.specs.declared.Update.{Update}
 use Rattle.form.specs.declared.Counts.{Counts}
 use Rattle.form.specs.declared.Consolidating.{Consolidating}
+use Rattle.form.specs.declared.Sizes.{Sizes}
 use Rattle.form.specs.declared.Found.{Found}
 use Rattle.form.specs.Form.{formed, falls, inRange}
 
@@ -153,14 +154,18 @@ unfoldable pub surveyNumber : List Entry → ℕ
 unfolding first falls every
 surveyNumber es = first (refuse 3 (falls es) ∷ refuse 4 (not (every inRange es)) ∷ [])
 
--- what the first pass finds: the number, and, where that is 0, the counts of what is formed
-pub record Surveyed (es : List Entry) (r : Found) : Type 0 where
-  pub number : r .number ≡ surveyNumber es
-  pub counts : surveyNumber es ≡ 0 → r .counts ≡ countFrom noCounts (formed es)
-
 -- the counts of all that is formed
 abbrev pub finalCounts : List Entry → Counts
 finalCounts es = countFrom noCounts (formed es)
+
+-- how many keys, values and times are counted
+abbrev pub sizesOf : Counts → Sizes
+sizesOf c = record { nk = c .nk; nv = c .nv; nt = c .nt }
+
+-- what the first pass finds: the number, and, where that is 0, the sizes of what is formed
+pub record Surveyed (es : List Entry) (r : Found) : Type 0 where
+  pub number : r .number ≡ surveyNumber es
+  pub sizes : surveyNumber es ≡ 0 → r .sizes ≡ sizesOf (finalCounts es)
 
 -- the places are those of what is formed, in an output that holds it
 pub record Placed (es : List Entry) (p : Contents) (out : List ℕ) : Type 0 where

@@ -2,14 +2,15 @@
 //
 // The updates are read twice. The first pass tests them and counts the keys, values and times that will stand; the second writes
 // each finished entry into the seven bodies of the chunk, whose places the counts give. Both passes hold one pending update, to
-// which every update at its position is added, and which is done when another position comes.
+// which every update at its position is added, and which is done when another position comes. In the first pass no branch depends
+// on the updates.
 use chunk::Contents;
 use chunk::layout;
 use chunk::write_table;
 use sort::sort_updates;
 use std::num::wrapping_add_u64;
 ghost use mathlib.Core.Path.{_≡_};
-ghost use mathlib.Core.Bool.{true, _&&_};
+ghost use mathlib.Core.Bool.{true, _&&_, cond};
 ghost use Prim.Native.Nat.{_+_, _<_, _^_};
 ghost use lib.ListN.{length};
 ghost use Rattle.chunk.specs.Entry.{before, same, every};
@@ -17,7 +18,8 @@ ghost use Rattle.chunk.specs.Bodies.{chunkOf};
 ghost use Rattle.chunk.specs.Words.{over};
 ghost use Rattle.sort.specs.Sort.{updates};
 ghost use Rattle.form.specs.Form.{formed, inRange, FormAnswers, UnsortedAnswers};
-ghost use Rattle.form.specs.Pass.{entryOf, updateAt, noUpdate, joined, counted, stored, nextCounts, pushed, writeFrom, noCounts, Counting, Roomy, Some, Pushed, Taken, Stored, Surveyed, Placed, Accepts, finalCounts, countNumber};
+ghost use Rattle.form.specs.Pass.{entryOf, updateAt, noUpdate, joined, counted, stored, nextCounts, nextPending, pushed, writeFrom, noCounts, Counting, Roomy, Some, Pushed, Taken, Stored, Surveyed, Placed, Accepts, finalCounts, sizesOf, countNumber};
+ghost use Rattle.form.specs.Tally.{bit, noSizes, sizesAfter, tallied, Sized};
 
 // One update: a position and its change.
 struct Update {
@@ -25,6 +27,28 @@ struct Update {
     val: u64,
     time: u64,
     diff: u64,
+}
+
+// How many keys, values and times there are.
+struct Sizes {
+    nk: usize,
+    nv: usize,
+    nt: usize,
+}
+
+// The first pass on its way: how much is done, the update that is pending, and whether an entry with its key, and one with its key
+// and value, is among what is done.
+struct Tally {
+    sizes: Sizes,
+    pending: Update,
+    keyed: bool,
+    valued: bool,
+}
+
+// What the first pass finds: a refusal's number, or 0 and the sizes.
+struct Found {
+    number: u64,
+    sizes: Sizes,
 }
 
 // The keys, values and times so far, and the entry that was counted last.
@@ -35,16 +59,10 @@ struct Counts {
     last: Update,
 }
 
-// A pass on its way: what is done, and the update that is pending.
+// The second pass on its way: what is done, and the update that is pending.
 struct Consolidating {
     counts: Counts,
     pending: Update,
-}
-
-// What the first pass finds: a refusal's number, or 0 and the counts.
-struct Found {
-    number: u64,
-    counts: Counts,
 }
 
 // The most updates that are taken.
@@ -111,35 +129,19 @@ fn same_position(a: Update, b: Update) -> bool
     a.time == b.time
 }
 
-// Whether the position of `a` is before that of `b`: by key, then value, then time.
+// Whether the position of `a` is before that of `b`: by key, then value, then time, with no branch.
 fn precedes(a: Update, b: Update) -> bool
     ensures { λ r. ⌜ r ≡ before (entryOf a) (entryOf b) ⌝ }
 {
-    if a.key < b.key {
-        return true;
-    }
-    if b.key < a.key {
-        return false;
-    }
-    if a.val < b.val {
-        return true;
-    }
-    if b.val < a.val {
-        return false;
-    }
-    a.time < b.time
+    (a.key < b.key)
+        | ((a.key == b.key) & ((a.val < b.val) | ((a.val == b.val) & (a.time < b.time))))
 }
 
-// Whether all was in range so far, and this update's diff is too.
+// Whether all was in range so far, and this update's diff is too, with no branch.
 fn still_in_range(sofar: bool, u: Update) -> bool
     ensures { λ r. ⌜ r ≡ (sofar && inRange (entryOf u)) ⌝ }
 {
-    if MOST < u.diff {
-        if u.diff < LEAST {
-            return false;
-        }
-    }
-    sofar
+    sofar & ((u.diff <= MOST) | (LEAST <= u.diff))
 }
 
 // The update `a` with the diff of `b` added. Where diffs are in range no sum of them overflows.
@@ -221,17 +223,6 @@ fn store(out: &mut [u64], places: Contents, c: Counts)
     out[diffs_at + t] = last.diff;
 }
 
-// The counts with an entry added, if it stands.
-fn push_count(c: Counts, entry: Update) -> Counts
-    requires { ⌜ Counting (2 ^ 62) c ⌝ }
-    ensures { λ r. ⌜ r ≡ pushed c (entryOf entry) ⌝ }
-{
-    if entry.diff == 0 {
-        return c;
-    }
-    count(c, entry)
-}
-
 // Counts the entry `e` and stores it, if it stands.
 fn push(out: &mut [u64], places: Contents, c: Counts, e: Update) -> Counts
     requires { ⌜ Counting (2 ^ 62) c ⌝ }
@@ -246,7 +237,7 @@ fn push(out: &mut [u64], places: Contents, c: Counts, e: Update) -> Counts
     more
 }
 
-// One update more at the pending position, in either pass.
+// One update more at the pending position.
 fn take_same(state: Consolidating, u: Update) -> Consolidating
     requires { ⌜ same (entryOf (state .pending)) (entryOf u) ≡ true ⌝ }
     ensures { λ r. ⌜ Taken state u r ⌝ }
@@ -257,23 +248,6 @@ fn take_same(state: Consolidating, u: Update) -> Consolidating
     Consolidating {
         counts,
         pending: sum,
-    }
-}
-
-// One update more in the pass that counts.
-fn take_count(state: Consolidating, u: Update) -> Consolidating
-    requires { ⌜ Counting (2 ^ 62) (state .counts) ⌝ }
-    ensures { λ r. ⌜ Taken state u r ⌝ }
-{
-    let pending = state.pending;
-    if same_position(pending, u) {
-        return take_same(state, u);
-    }
-    let counts = state.counts;
-    let more = push_count(counts, pending);
-    Consolidating {
-        counts: more,
-        pending: u,
     }
 }
 
@@ -295,42 +269,125 @@ fn take_write(out: &mut [u64], places: Contents, state: Consolidating, u: Update
     }
 }
 
-// A first pass that ends in a refusal.
-fn refused(number: u64) -> Found
-    ensures { λ r. ⌜ r ≡ record { number = number; counts = noCounts } ⌝ }
+// 1 where a test holds, else 0.
+fn bit_of(b: bool) -> usize
+    ensures { λ r. ⌜ r ≡ bit b ⌝ }
 {
-    let counts = no_counts();
-    Found { number, counts }
+    if b {
+        return 1;
+    }
+    0
 }
 
-// The first pass: whether a position falls, whether each diff is in range, and the counts of what is formed.
+// The word where a test holds, else 0.
+fn word_if(b: bool, word: u64) -> u64
+    ensures { λ r. ⌜ r ≡ cond b word 0 ⌝ }
+{
+    if b {
+        return word;
+    }
+    0
+}
+
+// Before the first entry.
+fn no_sizes() -> Sizes
+    ensures { λ r. ⌜ r ≡ noSizes ⌝ }
+{
+    Sizes {
+        nk: 0,
+        nv: 0,
+        nt: 0,
+    }
+}
+
+// The sizes with the pending entry added, where it ends. It is the first of its key, or of its value, where none is counted yet.
+fn sizes_after(t: Tally, ends: bool) -> Sizes
+    requires { ⌜ Sized (2 ^ 62) (t .sizes) ⌝ }
+    ensures { λ r. ⌜ r ≡ sizesAfter t ends ⌝ }
+{
+    let sizes = t.sizes;
+    Sizes {
+        nk: sizes.nk + bit_of(ends & !t.keyed),
+        nv: sizes.nv + bit_of(ends & !t.valued),
+        nt: sizes.nt + bit_of(ends),
+    }
+}
+
+// The update `b`, with the diff of `a` added where the two have one position.
+fn follow(a: Update, b: Update, alike: bool) -> Update
+    requires { ⌜ alike ≡ same (entryOf a) (entryOf b) ⌝ }
+    ensures { λ r. ⌜ entryOf r ≡ nextPending (entryOf a) (entryOf b) ⌝ }
+{
+    Update {
+        key: b.key,
+        val: b.val,
+        time: b.time,
+        diff: wrapping_add_u64(word_if(alike, a.diff), b.diff),
+    }
+}
+
+// One update more in the pass that counts.
+fn take_count(t: Tally, u: Update) -> Tally
+    requires { ⌜ Sized (2 ^ 62) (t .sizes) ⌝ }
+    ensures { λ r. ⌜ r ≡ tallied t (entryOf u) ⌝ }
+{
+    let a = t.pending;
+    let same_key = a.key == u.key;
+    let same_val = same_key & (a.val == u.val);
+    let alike = same_val & (a.time == u.time);
+    let ends = !alike & (a.diff != 0);
+    let sizes = sizes_after(t, ends);
+    let pending = follow(a, u, alike);
+    Tally {
+        sizes,
+        pending,
+        keyed: same_key & (t.keyed | ends),
+        valued: same_val & (t.valued | ends),
+    }
+}
+
+// A first pass that ends in a refusal.
+fn refused(number: u64) -> Found
+    ensures { λ r. ⌜ r ≡ record { number = number; sizes = noSizes } ⌝ }
+{
+    let sizes = no_sizes();
+    Found { number, sizes }
+}
+
+// The first pass: whether a position falls, whether each diff is in range, and the sizes of what is formed.
 fn survey(words: &[u64]) -> Found
     ensures { λ r. ⌜ Surveyed (updates (now (words .entry))) r ⌝ }
 {
-    let counts = no_counts();
+    let sizes = no_sizes();
     let pending = no_update();
-    let mut state = Consolidating { counts, pending };
+    let mut state = Tally {
+        sizes,
+        pending,
+        keyed: false,
+        valued: false,
+    };
+    let mut fell = false;
     let mut inside = true;
     let mut at = 0;
     while at + 3 < words.len() {
         let next = update_at(words, at);
         let previous = state.pending;
-        if precedes(next, previous) {
-            return refused(3);
-        }
+        fell = fell | precedes(next, previous);
         inside = still_in_range(inside, next);
         state = take_count(state, next);
         at += 4;
     }
+    if fell {
+        return refused(3);
+    }
     if !inside {
         return refused(4);
     }
-    let done = state.counts;
     let last = state.pending;
-    let all = push_count(done, last);
+    let all = sizes_after(state, last.diff != 0);
     Found {
         number: 0,
-        counts: all,
+        sizes: all,
     }
 }
 
@@ -353,15 +410,15 @@ fn write_entries(sorted: &[u64], out: &mut [u64], places: Contents)
     push(out, places, done, last);
 }
 
-// Writes the chunk of what is formed, whose counts the first pass found.
-fn form_sorted(words: &[u64], out: &mut [u64], counts: Counts)
-    requires { ⌜ counts ≡ finalCounts (updates (now words)) ⌝ }
+// Writes the chunk of what is formed, whose sizes the first pass found.
+fn form_sorted(words: &[u64], out: &mut [u64], sizes: Sizes)
+    requires { ⌜ sizes ≡ sizesOf (finalCounts (updates (now words))) ⌝ }
     requires { ⌜ Accepts (updates (now words)) (now out) ⌝ }
     ensures { λ _. ⌜ now (out .exit) ≡ over (chunkOf (formed (updates (now (words .entry))))) (now (out .entry)) ⌝ }
 {
-    let nk = counts.nk;
-    let nv = counts.nv;
-    let nt = counts.nt;
+    let nk = sizes.nk;
+    let nv = sizes.nv;
+    let nt = sizes.nt;
     let places = layout(nk, nv, nt, nt);
     write_table(out, nk, nv, nt, nt);
     write_entries(words, out, places);
@@ -398,8 +455,8 @@ pub fn form(updates: &[u64], out: &mut [u64]) -> u64
     if out.len() < ROOM + ROOM_EACH * count {
         return 13;
     }
-    let counts = found.counts;
-    form_sorted(updates, out, counts);
+    let sizes = found.sizes;
+    form_sorted(updates, out, sizes);
     0
 }
 
@@ -436,7 +493,7 @@ pub fn form_unsorted(updates: &mut [u64], out: &mut [u64]) -> u64
     }
     sort_updates(updates);
     let found = survey(updates);
-    let counts = found.counts;
-    form_sorted(updates, out, counts);
+    let sizes = found.sizes;
+    form_sorted(updates, out, sizes);
     0
 }

@@ -38,7 +38,7 @@ form-sorted-requires c κs =
     let g = c .before .before .before .before .before .before .before .before .before .args in
     let n = updates-length (now (g .updates)) in
     let few = count-few (length (now (g .updates))) (sym (c .before .before .before .before .before .before .miscounted .ensures) ∙ c .before .before .before .before .before .if1 .left) in (
-      c .before .before .before .before .survey .ensures .counts (sym (c .before .before .before .before .survey .ensures .number) ∙ c .before .before .before .if2 .left),
+      c .before .before .before .before .survey .ensures .sizes (sym (c .before .before .before .before .survey .ensures .number) ∙ c .before .before .before .if2 .left),
       record { few = omega (arith, n, few); room = omega (arith, n, c .before .before .if3 .left) },
     )
 

@@ -51,7 +51,7 @@ form-sorted-requires c κs =
     let counts = sym (c .before .before .before .before .before .before .before .before .before .before .before .before .before .before .miscounted .ensures) ∙ c .before .before .before .before .before .before .before .before .before .before .before .before .before .if1 .left in
     let inside = sym (c .before .before .before .before .before .before .before .before .before .before .before .all-in-range .ensures) ∙ not-false _ (c .before .before .before .before .before .before .before .before .before .before .if2 .left) in
     let s = c .before .before .before .before .before .before .before .sort-updates in (
-      c .before .before .before .survey .ensures .counts (sorted-passes us (now (g .out)) counts inside (s .last .0) (s .ensures)),
+      c .before .before .before .survey .ensures .sizes (sorted-passes us (now (g .out)) counts inside (s .last .0) (s .ensures)),
       sorted-accepts us (now (g .out)) counts inside (c .before .before .before .before .before .before .before .before .before .if3 .left) (s .last .0) (s .ensures),
     )
 

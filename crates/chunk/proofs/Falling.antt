@@ -99,7 +99,7 @@ parted low (e ∷ f ∷ ends) items h =
     simp d (omega (arith, seam items low e g (omega arith), parted e (f ∷ ends) items k))
 
 -- an amount more is none more where it is 0
-more : (m n : ℕ) → eqb n 0 ≡ eqb (m + n) m
+pub more : (m n : ℕ) → eqb n 0 ≡ eqb (m + n) m
 more m n =
     by-test (eqb n 0)
     (λ k. let q : n ≡ 0 = eqb-true _ _ k in k ∙ sym (eq-eqb (m + n) m (omega arith)))

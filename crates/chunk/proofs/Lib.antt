@@ -5,3 +5,4 @@ pub mod Placed
 pub mod Counting
 pub mod Falling
 pub mod Parting
+pub mod Rowing

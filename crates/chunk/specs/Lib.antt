@@ -4,6 +4,7 @@ pub mod Bodies
 pub mod Words
 pub mod Falls
 pub mod Contents
+pub mod Rows
 pub mod Refusal
 pub mod Check
 pub mod Sums

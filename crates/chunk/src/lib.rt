@@ -6,7 +6,8 @@ ghost use Rattle.chunk.specs.Check.{checkedOf};
 ghost use Rattle.chunk.specs.Entry.{every};
 ghost use Rattle.chunk.specs.Words.{rises, endsRise, endsStep, lists, allOrNone, wellFormed};
 ghost use Rattle.chunk.specs.Falls.{fall, fallsOf, fallsAt, Ahead};
-ghost use mathlib.Core.Bool.{not, _&&_, _||_};
+ghost use Rattle.chunk.specs.Rows.{countsUp, Rows, Level, Counted};
+ghost use mathlib.Core.Bool.{true, not, _&&_, _||_};
 ghost use lib.Dec.{eqb};
 ghost use lib.ListN.{length};
 
@@ -370,6 +371,37 @@ fn diffs_stand(diffs: &[u64]) -> bool
     good
 }
 
+// Whether keys with one value, one time and one diff each hold: the keys rise, each of the ends is one more than the one before it, and no diff is 0. The five bodies are read side by side, so that their words come in at once.
+fn rows_hold(
+    keys: &[u64],
+    val_ends: &[u64],
+    time_ends: &[u64],
+    diff_ends: &[u64],
+    diffs: &[u64],
+) -> bool
+    requires { ⌜ Rows (now keys) (now «val_ends») (now «time_ends») (now «diff_ends») (now diffs) ⌝ }
+    ensures { λ r. ⌜ r ≡ (rises (now (keys .entry)) && (countsUp (now («val_ends» .entry)) && (countsUp (now («time_ends» .entry)) && (countsUp (now («diff_ends» .entry)) && every (λ (d : ℕ). not (eqb d 0)) (now (diffs .entry)))))) ⌝ }
+{
+    let mut fell = 0;
+    let mut last = 0;
+    let mut vals = 0;
+    let mut times = 0;
+    let mut ends = 0;
+    let mut good = true;
+    let mut i = 0;
+    while i < keys.len() {
+        let next = keys[i];
+        fell += fall_of(last, next);
+        last = next;
+        vals |= val_ends[i] ^ (i as u64 + 1);
+        times |= time_ends[i] ^ (i as u64 + 1);
+        ends |= diff_ends[i] ^ (i as u64 + 1);
+        good = good & (diffs[i] != 0);
+        i += 1;
+    }
+    (fell == fall_of(0, keys[0])) & ((vals == 0) & ((times == 0) & ((ends == 0) & good)))
+}
+
 // Whether all three counts are zero, or none is.
 fn all_or_none(nk: usize, nv: usize, nt: usize) -> bool
     ensures { λ r. ⌜ r ≡ allOrNone nk nv nt ⌝ }
@@ -386,28 +418,18 @@ fn all_or_none(nk: usize, nv: usize, nt: usize) -> bool
     0 < nt
 }
 
-// Whether a slice with these contents is well formed. The bodies are read from the last to the first, so that a call that goes on from the first has that at hand.
-fn bodies_hold(words: &[u64], found: Contents) -> bool
-    requires { ⌜ Placed found (now words) ⌝ }
+// Whether the bodies hold of a slice with these contents, whose counts do. They are read from the last to the first, so that a call that goes on from the first has that at hand.
+fn layers_hold(words: &[u64], found: Contents) -> bool
+    requires { ⌜ Placed found (now words) × Counted found ⌝ }
     ensures { λ r. ⌜ r ≡ wellFormed (now (words .entry)) ⌝ }
 {
-    let nk = found.nk;
-    let nv = found.nv;
-    let nt = found.nt;
-    let nd = found.nd;
-    if LIMIT < nt {
-        return false;
-    }
-    if !all_or_none(nk, nv, nt) {
-        return false;
-    }
     let diffs_at = found.diffs_at;
     let size = found.size;
     if !diffs_stand(&words[diffs_at..size]) {
         return false;
     }
     let diff_ends_at = found.diff_ends_at;
-    if !ends_step(&words[diff_ends_at..diffs_at], nd as u64) {
+    if !ends_step(&words[diff_ends_at..diffs_at], found.nd as u64) {
         return false;
     }
     let time_ends_at = found.time_ends_at;
@@ -425,6 +447,52 @@ fn bodies_hold(words: &[u64], found: Contents) -> bool
     }
     let keys_at = found.keys_at;
     items_rise(&words[keys_at..val_ends_at])
+}
+
+// The same where there are as many keys, values, times and diffs.
+fn level_holds(words: &[u64], found: Contents) -> bool
+    requires { ⌜ Placed found (now words) × (Counted found × Level found) ⌝ }
+    ensures { λ r. ⌜ r ≡ wellFormed (now (words .entry)) ⌝ }
+{
+    let keys_at = found.keys_at;
+    let val_ends_at = found.val_ends_at;
+    let vals_at = found.vals_at;
+    let time_ends_at = found.time_ends_at;
+    let times_at = found.times_at;
+    let diff_ends_at = found.diff_ends_at;
+    let diffs_at = found.diffs_at;
+    let size = found.size;
+    rows_hold(
+        &words[keys_at..val_ends_at],
+        &words[val_ends_at..vals_at],
+        &words[time_ends_at..times_at],
+        &words[diff_ends_at..diffs_at],
+        &words[diffs_at..size],
+    )
+}
+
+// Whether there are as many keys, values, times and diffs, and some.
+fn is_level(found: Contents) -> bool
+    ensures { λ r. ⌜ (r ≡ true → Level found) ⌝ }
+{
+    (0 < found.nk) & ((found.nk == found.nv) & ((found.nv == found.nt) & (found.nt == found.nd)))
+}
+
+// Whether a slice with these contents is well formed.
+fn bodies_hold(words: &[u64], found: Contents) -> bool
+    requires { ⌜ Placed found (now words) ⌝ }
+    ensures { λ r. ⌜ r ≡ wellFormed (now (words .entry)) ⌝ }
+{
+    if LIMIT < found.nt {
+        return false;
+    }
+    if !all_or_none(found.nk, found.nv, found.nt) {
+        return false;
+    }
+    if is_level(found) {
+        return level_holds(words, found);
+    }
+    layers_hold(words, found)
 }
 
 // The check of a chunk: 5 exactly where the slice isn't well formed; else the contents, and whether it is settled.

@@ -1,31 +1,21 @@
 -- `chunk::diffs_stand` meets its contract: the whole test is that no diff was 0 so far, and the test of those that are left.
-use Prim.Native.Nat.{ℕ, _≤_, _<_, _+_, _-_}
+use Prim.Native.Nat.{_≤_, _-_}
 use mathlib.Core.Path.{_≡_, sym, _∙_}
-use mathlib.Core.Bool.{not, _&&_}
-use mathlib.Core.List.{List}
+use mathlib.Core.Bool.{_&&_}
 use mathlib.Core.Logic.{⊎-elim}
-use native.Mathlib.Numerals.{add-one}
 use borrow.Author.Needs.{needs}
 use borrow.Author.Tests.{eq-eqb, ne-eqb}
-use lib.ListN.{length, drop, getD, drop-of-length-le}
-use lib.Seq.{drop-cons}
-use lib.Dec.{eqb}
+use lib.ListN.{length, drop, drop-of-length-le}
 use denote.Ref.{now}
 use Rattle.chunk.specs.Entry.{every}
 use Rattle.chunk.proofs.Tests.{and-false, and-true}
+use Rattle.chunk.proofs.Rowing.{standing, stood}
 use Rattle.chunk.proofs.diffs_stand.Statement.{statement}
 use Rattle.chunk.proofs.diffs_stand.Tie as tie
-use Rattle.chunk.proofs.diffs_stand.Reads as reads
-use Rattle.chunk.proofs.diffs_stand.Lts as lts
-
--- one diff more
-turn : (ds : List ℕ) (i : ℕ) → i < length ds → every (λ (d : ℕ). not (eqb d 0)) (drop i ds) ≡ (not (eqb (getD ds i 0) 0) && every (λ (d : ℕ). not (eqb d 0)) (drop (i + 1) ds))
-unfolding every
-turn ds i h = rw (add-one, drop-cons ds i 0)
 
 abbrev Inv-loop : tie.InvT-loop
 Inv-loop diffs good₀ i₀ good i =
-    (i ≤ length diffs) × (every (λ (d : ℕ). not (eqb d 0)) diffs ≡ (good && every (λ (d : ℕ). not (eqb d 0)) (drop i diffs)))
+    (i ≤ length diffs) × (standing diffs ≡ (good && standing (drop i diffs)))
 
 abbrev μ-loop : tie.MeasureT-loop
 μ-loop diffs good₀ i₀ good i = length diffs - i
@@ -49,7 +39,7 @@ loop-again : tie.Need-loop-again Inv-loop μ-loop
 loop-again c =
     let l = c .before .before .before .loop in
     let s = now (c .before .before .before .before .args .diffs) in
-    let t = turn s (l .i) (c .before .before .loop-test .taken) in (
+    let t = stood s (l .i) (c .before .before .loop-test .taken) in (
       search needs,
       ⊎-elim
           (λ w. l .inv .1 ∙ simp (t, eq-eqb _ _ (w .0 .taken), and-false, w .1))

@@ -24,7 +24,7 @@ steep low top (e ∷ ends) h =
     (λ k. simp k)
 
 -- ends that step by one each at most don't end above that
-flat : (low top : ℕ) (ends : List ℕ) → low + length ends < top → endsStep low ends top ≡ false
+pub flat : (low top : ℕ) (ends : List ℕ) → low + length ends < top → endsStep low ends top ≡ false
 unfolding endsStep
 flat low top [] h = ne-eqb low top (λ p. omega arith)
 flat low top (e ∷ ends) h =

@@ -6,3 +6,4 @@ pub mod Counting
 pub mod Falling
 pub mod Parting
 pub mod Rowing
+pub mod Stepping

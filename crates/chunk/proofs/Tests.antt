@@ -43,6 +43,10 @@ and-right false b h = absurd (true-not-false (sym h))
 pub and-both : (a b : Bool) → a ≡ true → b ≡ true → (a && b) ≡ true
 and-both a b h k = simp (h, k)
 
+pub and-turned : (a b : Bool) → (a && b) ≡ (b && a)
+and-turned true b = sym (and-true b)
+and-turned false b = sym (and-false b)
+
 pub and-joins : (a b c : Bool) → (a && (b && c)) ≡ ((a && b) && c)
 and-joins true b c = refl
 and-joins false b c = refl

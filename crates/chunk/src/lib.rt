@@ -325,35 +325,20 @@ fn steps(low: u64, end: u64) -> bool
     end - low <= 1
 }
 
-// Whether each end is the previous one or one more, and the last is `top`, for any `top`. It reads every end, with no exit before the last.
-fn ends_near(ends: &[u64], top: u64) -> bool
-    ensures { λ r. ⌜ r ≡ endsStep 0 (now (ends .entry)) top ⌝ }
+// Whether each end is the previous one or one more, the first one after `low`, and the last is `top`. It reads every end, with no exit before the last.
+fn ends_near(low: u64, ends: &[u64], top: u64) -> bool
+    ensures { λ r. ⌜ r ≡ endsStep low (now (ends .entry)) top ⌝ }
 {
     let mut good = true;
-    let mut low = 0;
+    let mut last = low;
     let mut i = 0;
     while i < ends.len() {
         let end = ends[i];
-        if !steps(low, end) {
-            good = false;
-        }
-        low = end;
+        good = good & steps(last, end);
+        last = end;
         i += 1;
     }
-    if low != top {
-        return false;
-    }
-    good
-}
-
-// What `ends_near` says. Where `top` is the count of the ends, each end has to be one more than the previous one.
-fn ends_step(ends: &[u64], top: u64) -> bool
-    ensures { λ r. ⌜ r ≡ endsStep 0 (now (ends .entry)) top ⌝ }
-{
-    if ends.len() as u64 == top {
-        return counts_up(ends);
-    }
-    ends_near(ends, top)
+    (last == top) & good
 }
 
 // Whether no diff is 0. It reads every diff, with no exit before the last.
@@ -369,6 +354,37 @@ fn diffs_stand(diffs: &[u64]) -> bool
         i += 1;
     }
     good
+}
+
+// Whether the diff ends step up to the count of the diffs and no diff is 0, where there are no more diffs than ends. The two are read side by side as far as both go.
+fn steps_hold(ends: &[u64], diffs: &[u64]) -> bool
+    requires { ⌜ length (now diffs) ≤ length (now ends) ⌝ }
+    ensures { λ r. ⌜ r ≡ (endsStep 0 (now (ends .entry)) (length (now (diffs .entry))) && every (λ (d : ℕ). not (eqb d 0)) (now (diffs .entry))) ⌝ }
+{
+    let count = diffs.len();
+    let mut good = true;
+    let mut low = 0;
+    let mut i = 0;
+    while i < count {
+        let end = ends[i];
+        good = good & (steps(low, end) & (diffs[i] != 0));
+        low = end;
+        i += 1;
+    }
+    good & ends_near(low, &ends[count..], count as u64)
+}
+
+// What `steps_hold` says, of any ends and diffs. As many ends as diffs step by one each, and fewer can't reach their count.
+fn changes_hold(ends: &[u64], diffs: &[u64]) -> bool
+    ensures { λ r. ⌜ r ≡ (endsStep 0 (now (ends .entry)) (length (now (diffs .entry))) && every (λ (d : ℕ). not (eqb d 0)) (now (diffs .entry))) ⌝ }
+{
+    if ends.len() < diffs.len() {
+        return false;
+    }
+    if ends.len() == diffs.len() {
+        return counts_up(ends) & diffs_stand(diffs);
+    }
+    steps_hold(ends, diffs)
 }
 
 // Whether keys with one value, one time and one diff each hold: the keys rise, each of the ends is one more than the one before it, and no diff is 0. The five bodies are read side by side, so that their words come in at once.
@@ -423,13 +439,10 @@ fn layers_hold(words: &[u64], found: Contents) -> bool
     requires { ⌜ Placed found (now words) × Counted found ⌝ }
     ensures { λ r. ⌜ r ≡ wellFormed (now (words .entry)) ⌝ }
 {
+    let diff_ends_at = found.diff_ends_at;
     let diffs_at = found.diffs_at;
     let size = found.size;
-    if !diffs_stand(&words[diffs_at..size]) {
-        return false;
-    }
-    let diff_ends_at = found.diff_ends_at;
-    if !ends_step(&words[diff_ends_at..diffs_at], found.nd as u64) {
+    if !changes_hold(&words[diff_ends_at..diffs_at], &words[diffs_at..size]) {
         return false;
     }
     let time_ends_at = found.time_ends_at;

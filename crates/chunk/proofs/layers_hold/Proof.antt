@@ -16,7 +16,7 @@ use Rattle.chunk.specs.Rows.{Counted}
 use Rattle.chunk.proofs.Tests.{by-test, true-not-false, and-left, and-right, and-both}
 use Rattle.chunk.proofs.WellFormed.{whole, refuted}
 use Rattle.chunk.proofs.Rowing.{alike}
-use Rattle.chunk.proofs.Placed.{cut-keys, cut-val-ends, cut-vals, cut-time-ends, cut-times, cut-diff-ends, cut-diffs, length-vals, length-times}
+use Rattle.chunk.proofs.Placed.{cut-keys, cut-val-ends, cut-vals, cut-time-ends, cut-times, cut-diff-ends, cut-diffs, length-vals, length-times, length-diffs}
 use borrow.Author.Needs.{needs}
 use Rattle.chunk.proofs.layers_hold.Statement.{statement}
 use Rattle.chunk.proofs.layers_hold.Tie as tie
@@ -43,21 +43,21 @@ module _ (f : Contents) (w : List ℕ) (p : Placed f w) where
       → r ≡ (endsRise 0 (timeEndBody w) (nt w) && every rises (lists 0 (timeEndBody w) (timeBody w)))
   times r h = h ∙ rw (cut-time-ends f w p, cut-times f w p, length-times f w p)
 
-  diffEnds : (r : Bool) → r ≡ endsStep 0 (take (f .«diffs_at» - f .«diff_ends_at») (drop (f .«diff_ends_at») w)) (f .nd) → r ≡ endsStep 0 (diffEndBody w) (nd w)
-  diffEnds r h = h ∙ rw (cut-diff-ends f w p, p .diffCount)
-
-  diffs : (r : Bool) → r ≡ every (λ (d : ℕ). not (eqb d 0)) (take (f .size - f .«diffs_at») (drop (f .«diffs_at») w)) → r ≡ every (λ (d : ℕ). not (eqb d 0)) (diffBody w)
-  diffs r h = h ∙ ap (every (λ (d : ℕ). not (eqb d 0))) (cut-diffs f w p)
+  changes :
+      (r : Bool)
+      → r ≡ (endsStep 0 (take (f .«diffs_at» - f .«diff_ends_at») (drop (f .«diff_ends_at») w)) (length (take (f .size - f .«diffs_at») (drop (f .«diffs_at») w)))
+      && every (λ (d : ℕ). not (eqb d 0)) (take (f .size - f .«diffs_at») (drop (f .«diffs_at») w)))
+      → r ≡ (endsStep 0 (diffEndBody w) (nd w) && every (λ (d : ℕ). not (eqb d 0)) (diffBody w))
+  changes r h = h ∙ rw (cut-diff-ends f w p, cut-diffs f w p, length-diffs f w p)
 
   -- the last test decides, once the others hold
   last :
       (counted : Counted f)
-      (standing : every (λ (d : ℕ). not (eqb d 0)) (diffBody w) ≡ true)
-      (stepped : endsStep 0 (diffEndBody w) (nd w) ≡ true)
+      (changed : (endsStep 0 (diffEndBody w) (nd w) && every (λ (d : ℕ). not (eqb d 0)) (diffBody w)) ≡ true)
       (timed : (endsRise 0 (timeEndBody w) (nt w) && every rises (lists 0 (timeEndBody w) (timeBody w))) ≡ true)
       (valued : (endsRise 0 (valEndBody w) (nv w) && every rises (lists 0 (valEndBody w) (valBody w))) ≡ true)
       → (r : Bool) → r ≡ rises (keyBody w) → r ≡ wellFormed w
-  last counted standing stepped timed valued r h =
+  last counted changed timed valued r h =
       by-test r
       (λ k. k ∙ sym (whole w (record {
         tableFits = and-both (leb tableSize (length w)) _ (le-leb _ _ (p .table)) (le-leb (size w) (length w) (p .within));
@@ -68,46 +68,40 @@ module _ (f : Contents) (w : List ℕ) (p : Placed f w) where
         keysRise = sym h ∙ k;
         valsRise = and-right (endsRise 0 (valEndBody w) (nv w)) _ valued;
         timesRise = and-right (endsRise 0 (timeEndBody w) (nt w)) _ timed;
-        diffEndsStep = stepped;
-        diffsStand = standing;
+        diffEndsStep = and-left _ _ changed;
+        diffsStand = and-right (endsStep 0 (diffEndBody w) (nd w)) _ changed;
       })))
       (λ k. k ∙ refuted w (λ q. no (q .keysRise) (sym h ∙ k)))
 
-mul-diffs-stand : tie.Need-mul-diffs-stand
-mul-diffs-stand c = search needs
+mul-changes-hold : tie.Need-mul-changes-hold
+mul-changes-hold c = search needs
 
-sub-diffs-stand : tie.Need-sub-diffs-stand
-sub-diffs-stand c = search needs
+sub-changes-hold : tie.Need-sub-changes-hold
+sub-changes-hold c = search needs
 
-part-diffs-stand-start : tie.Need-part-diffs-stand-start
-part-diffs-stand-start c = search needs
+part-changes-hold-start : tie.Need-part-changes-hold-start
+part-changes-hold-start c = search needs
 
-part-diffs-stand-end : tie.Need-part-diffs-stand-end
-part-diffs-stand-end c = search needs
+part-changes-hold-end : tie.Need-part-changes-hold-end
+part-changes-hold-end c = search needs
 
-diffs-stand-requires : tie.Need-diffs-stand-requires
-diffs-stand-requires c κs = search needs
+mul-changes-hold-2 : tie.Need-mul-changes-hold-2
+mul-changes-hold-2 c = search needs
+
+sub-changes-hold-2 : tie.Need-sub-changes-hold-2
+sub-changes-hold-2 c = search needs
+
+part-changes-hold-start-2 : tie.Need-part-changes-hold-start-2
+part-changes-hold-start-2 c = search needs
+
+part-changes-hold-end-2 : tie.Need-part-changes-hold-end-2
+part-changes-hold-end-2 c = search needs
+
+changes-hold-requires : tie.Need-changes-hold-requires
+changes-hold-requires c κs = search needs
 
 returns : tie.Need-returns
-returns c = refuted _ (λ p. no (p .diffsStand) (sym (diffs (c .before .before .before .before .args .found) (c .before .before .before .before .args .words .now) (c .before .before .before .before .pre .0) _ (c .before .diffs-stand .ensures)) ∙ not-true _ (c .if1 .taken)))
-
-mul-ends-step : tie.Need-mul-ends-step
-mul-ends-step c = search needs
-
-sub-ends-step : tie.Need-sub-ends-step
-sub-ends-step c = search needs
-
-part-ends-step-start : tie.Need-part-ends-step-start
-part-ends-step-start c = search needs
-
-part-ends-step-end : tie.Need-part-ends-step-end
-part-ends-step-end c = search needs
-
-ends-step-requires : tie.Need-ends-step-requires
-ends-step-requires c κs = search needs
-
-returns-2 : tie.Need-returns-2
-returns-2 c = refuted _ (λ p. no (p .diffEndsStep) (sym (diffEnds (c .before .before .before .before .before .before .before .args .found) (c .before .before .before .before .before .before .before .args .words .now) (c .before .before .before .before .before .before .before .pre .0) _ (c .before .ends-step .ensures)) ∙ not-true _ (c .if2 .taken)))
+returns c = refuted _ (λ p. no (and-both _ _ (p .diffEndsStep) (p .diffsStand)) (sym (changes (c .before .before .before .before .before .args .found) (c .before .before .before .before .before .args .words .now) (c .before .before .before .before .before .pre .0) _ (c .before .changes-hold .ensures)) ∙ not-true _ (c .if1 .taken)))
 
 mul-layer-rises : tie.Need-mul-layer-rises
 mul-layer-rises c = search needs
@@ -136,8 +130,8 @@ part-layer-rises-end-2 c = search needs
 layer-rises-requires : tie.Need-layer-rises-requires
 layer-rises-requires c κs = search needs
 
-returns-3 : tie.Need-returns-3
-returns-3 c = refuted _ (λ p. no (and-both _ _ (p .timeEndsRise) (p .timesRise)) (sym (times (c .before .before .before .before .before .before .before .before .before .before .before .args .found) (c .before .before .before .before .before .before .before .before .before .before .before .args .words .now) (c .before .before .before .before .before .before .before .before .before .before .before .pre .0) _ (c .before .layer-rises .ensures)) ∙ not-true _ (c .if3 .taken)))
+returns-2 : tie.Need-returns-2
+returns-2 c = refuted _ (λ p. no (and-both _ _ (p .timeEndsRise) (p .timesRise)) (sym (times (c .before .before .before .before .before .before .before .before .before .args .found) (c .before .before .before .before .before .before .before .before .before .args .words .now) (c .before .before .before .before .before .before .before .before .before .pre .0) _ (c .before .layer-rises .ensures)) ∙ not-true _ (c .if2 .taken)))
 
 mul-layer-rises-3 : tie.Need-mul-layer-rises-3
 mul-layer-rises-3 c = search needs
@@ -166,8 +160,8 @@ part-layer-rises-end-4 c = search needs
 layer-rises-requires-2 : tie.Need-layer-rises-requires-2
 layer-rises-requires-2 c κs = search needs
 
-returns-4 : tie.Need-returns-4
-returns-4 c = refuted _ (λ p. no (and-both _ _ (p .valEndsRise) (p .valsRise)) (sym (vals (c .before .before .before .before .before .before .before .before .before .before .before .before .before .before .before .args .found) (c .before .before .before .before .before .before .before .before .before .before .before .before .before .before .before .args .words .now) (c .before .before .before .before .before .before .before .before .before .before .before .before .before .before .before .pre .0) _ (c .before .layer-rises2 .ensures)) ∙ not-true _ (c .if4 .taken)))
+returns-3 : tie.Need-returns-3
+returns-3 c = refuted _ (λ p. no (and-both _ _ (p .valEndsRise) (p .valsRise)) (sym (vals (c .before .before .before .before .before .before .before .before .before .before .before .before .before .args .found) (c .before .before .before .before .before .before .before .before .before .before .before .before .before .args .words .now) (c .before .before .before .before .before .before .before .before .before .before .before .before .before .pre .0) _ (c .before .layer-rises2 .ensures)) ∙ not-true _ (c .if3 .taken)))
 
 mul-items-rise : tie.Need-mul-items-rise
 mul-items-rise c = search needs
@@ -184,16 +178,15 @@ part-items-rise-end c = search needs
 items-rise-requires : tie.Need-items-rise-requires
 items-rise-requires c κs = search needs
 
-returns-5 : tie.Need-returns-5
-returns-5 c =
-    let s = c .before .before .before .before .before .before .before .before .before .before .before .before .before .before .before .before .before in
+returns-4 : tie.Need-returns-4
+returns-4 c =
+    let s = c .before .before .before .before .before .before .before .before .before .before .before .before .before .before .before in
     let f = s .args .found in
     let w = s .args .words .now in
     last f w (s .pre .0) (s .pre .1)
-    (sym (diffs f w (s .pre .0) _ (c .before .before .before .before .before .before .before .before .before .before .before .before .before .before .diffs-stand .ensures)) ∙ not-false _ (c .before .before .before .before .before .before .before .before .before .before .before .before .before .if1 .left))
-    (sym (diffEnds f w (s .pre .0) _ (c .before .before .before .before .before .before .before .before .before .before .before .ends-step .ensures)) ∙ not-false _ (c .before .before .before .before .before .before .before .before .before .before .if2 .left))
-    (sym (times f w (s .pre .0) _ (c .before .before .before .before .before .before .before .layer-rises .ensures)) ∙ not-false _ (c .before .before .before .before .before .before .if3 .left))
-    (sym (vals f w (s .pre .0) _ (c .before .before .before .layer-rises2 .ensures)) ∙ not-false _ (c .before .before .if4 .left))
+    (sym (changes f w (s .pre .0) _ (c .before .before .before .before .before .before .before .before .before .before .before .changes-hold .ensures)) ∙ not-false _ (c .before .before .before .before .before .before .before .before .before .before .if1 .left))
+    (sym (times f w (s .pre .0) _ (c .before .before .before .before .before .before .before .layer-rises .ensures)) ∙ not-false _ (c .before .before .before .before .before .before .if2 .left))
+    (sym (vals f w (s .pre .0) _ (c .before .before .before .layer-rises2 .ensures)) ∙ not-false _ (c .before .before .if3 .left))
     _
     (keys f w (s .pre .0) _ (c .items-rise .ensures))
 
@@ -201,18 +194,16 @@ pub layers-hold-spec : {M : Type 1} → statement M
 layers-hold-spec =
     tie.close
     (tie.spec
-    mul-diffs-stand
-    sub-diffs-stand
-    part-diffs-stand-start
-    part-diffs-stand-end
-    diffs-stand-requires
+    mul-changes-hold
+    sub-changes-hold
+    part-changes-hold-start
+    part-changes-hold-end
+    mul-changes-hold-2
+    sub-changes-hold-2
+    part-changes-hold-start-2
+    part-changes-hold-end-2
+    changes-hold-requires
     returns
-    mul-ends-step
-    sub-ends-step
-    part-ends-step-start
-    part-ends-step-end
-    ends-step-requires
-    returns-2
     mul-layer-rises
     sub-layer-rises
     part-layer-rises-start
@@ -222,7 +213,7 @@ layers-hold-spec =
     part-layer-rises-start-2
     part-layer-rises-end-2
     layer-rises-requires
-    returns-3
+    returns-2
     mul-layer-rises-3
     sub-layer-rises-3
     part-layer-rises-start-3
@@ -232,10 +223,10 @@ layers-hold-spec =
     part-layer-rises-start-4
     part-layer-rises-end-4
     layer-rises-requires-2
-    returns-4
+    returns-3
     mul-items-rise
     sub-items-rise
     part-items-rise-start
     part-items-rise-end
     items-rise-requires
-    returns-5)
+    returns-4)

@@ -9,8 +9,9 @@ use borrow.Author.Tests.{lt-ltb, le-ltb}
 use Rattle.chunk.specs.Words.{over, entries}
 use Rattle.merge.specs.declared.Survivor.{Survivor}
 use Rattle.merge.specs.declared.Joined.{Joined}
-use Rattle.merge.specs.Merge.{Survives, survivor, mergeNumber, mergeOut}
-use Rattle.merge.specs.Outcome.{survivorOf, answerBy, mergeAnswer, Refused, MergeAnswers}
+use Rattle.reports.specs.Merge.{Survives, survivor, mergeNumber, mergeOut}
+use Rattle.merge.specs.Outcome.{survivorOf, answerBy, mergeAnswer, MergeAnswers}
+use Rattle.reports.specs.Refusals.{Refused}
 use Rattle.whole.specs.Whole.{wholeNumber, cleanOut, leftOut, WholeAnswers}
 use Rattle.host.specs.Answers.{numberIn, laidBy, Answers}
 use Rattle.host.specs.Merges.{survivorWords, leftWords, onceLent, Said, PairAnswers, AllAnswers}

@@ -9,10 +9,10 @@ use lib.Dec.{ltb}
 use borrow.Author.Tests.{ltb-true, ltb-false, lt-ltb, le-ltb}
 use Rattle.laws.proofs.Tests.{by-test}
 use Rattle.chunk.specs.Words.{over, keyBody}
-use Rattle.merge.specs.Survey.{this, that, both, reports, surveyNumber}
-use Rattle.merge.specs.Survey.{Report as Said}
-use Rattle.merge.specs.Scratch.{pairOf}
-use Rattle.merge.proofs.Stepping.{pair-none}
+use Rattle.reports.specs.Survey.{this, that, both, reports, surveyNumber}
+use Rattle.reports.specs.Survey.{Report as Said}
+use Rattle.reports.specs.Scratch.{pairOf}
+use Rattle.reports.proofs.Ranges.{pair-none}
 use Rattle.survey.specs.declared.Report.{Report}
 use Rattle.survey.specs.declared.Next.{Next}
 use Rattle.survey.specs.declared.Surveyed.{Surveyed}

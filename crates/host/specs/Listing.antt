@@ -6,7 +6,7 @@ use mathlib.Core.List.{List, [], _∷_}
 use lib.Dec.{ltb}
 use lib.ListN.{length}
 use Rattle.chunk.specs.Words.{keyBody}
-use Rattle.merge.specs.Survey.{Report, this, that, both, reports, surveyNumber}
+use Rattle.reports.specs.Survey.{Report, this, that, both, reports, surveyNumber}
 use Rattle.host.specs.Answers.{numberIn, laidBy}
 
 -- the words of reports: kind (0 a run of the first input, 1 of the second, 2 a shared key), low, high

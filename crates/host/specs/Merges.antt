@@ -10,8 +10,9 @@ use Rattle.chunk.specs.Words.{entries}
 use Rattle.merge.specs.declared.Survivor.{Survivor}
 use Rattle.merge.specs.declared.Survivor.the-variants.{Nobody, First, Second}
 use Rattle.merge.specs.declared.Joined.{Joined}
-use Rattle.merge.specs.Merge.{survivor, mergeNumber, mergeOut}
-use Rattle.merge.specs.Outcome.{survivorOf, Refused}
+use Rattle.reports.specs.Merge.{survivor, mergeNumber, mergeOut}
+use Rattle.merge.specs.Outcome.{survivorOf}
+use Rattle.reports.specs.Refusals.{Refused}
 use Rattle.whole.specs.Whole.{wholeNumber, cleanOut, leftOut}
 use Rattle.host.specs.Answers.{numberIn, laidBy}
 

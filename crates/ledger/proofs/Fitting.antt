@@ -7,7 +7,7 @@ use borrow.Author.Tests.{ltb-true, lt-ltb}
 use Rattle.chunk.specs.Entry.{Entry, before, same, stands, every}
 use Rattle.chunk.specs.Sums.{plus, withDiff}
 use Rattle.form.specs.Form.{consolidated, formed}
-use Rattle.merge.specs.Merge.{insertAdd, union, merged}
+use Rattle.reports.specs.Merge.{insertAdd, union, merged}
 use Rattle.laws.specs.OneChunk.{isWord, fits}
 use Rattle.laws.proofs.Tests.{by-test, and-left, and-right, and-both}
 use Rattle.laws.proofs.Wrap.{plus-word}

@@ -10,9 +10,9 @@ use borrow.Author.Tests.{ltb-false, not-false}
 use Rattle.chunk.specs.Entry.{every}
 use Rattle.chunk.specs.Words.{entries, size, nt, limit}
 use Rattle.chunk.specs.Refusal.{Test, first, refuse, malformed, unsettled, empty}
-use Rattle.merge.specs.Merge.{merged, Place, Survives, nobody, theFirst, theSecond, soundAt, mergeNumber, mergeOut, suffixNumber}
-use Rattle.merge.specs.Theorems.{SoundOf}
-use Rattle.merge.proofs.Merged.{merged-rises, merged-short, survivor-sound}
+use Rattle.reports.specs.Merge.{merged, Place, Survives, nobody, theFirst, theSecond, soundAt, mergeNumber, mergeOut, suffixNumber}
+use Rattle.reports.specs.Theorems.{SoundOf}
+use Rattle.reports.proofs.Merged.{merged-rises, merged-short, survivor-sound}
 use Rattle.retain.specs.Cut.{filterNumber}
 use Rattle.whole.specs.Whole.{andThen, survives, restNumber, wholeNumber}
 use Rattle.whole.proofs.Parts.{goes-alike}

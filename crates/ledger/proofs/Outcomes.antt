@@ -4,7 +4,7 @@ use mathlib.Core.Path.{_≡_, refl, sym, ap, _∙_}
 use mathlib.Core.List.{List, _∷_}
 use Rattle.chunk.specs.Entry.{Entry}
 use Rattle.retain.specs.Answer.{extractedAs}
-use Rattle.merge.specs.Merge.{Survives}
+use Rattle.reports.specs.Merge.{Survives}
 use Rattle.merge.specs.Outcome.{answerBy}
 use Rattle.whole.specs.Whole.{survivesOf, survives, wholeNumber, cleanOut, leftOut}
 use Rattle.whole.proofs.Parts.{told}

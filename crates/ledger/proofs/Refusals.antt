@@ -17,8 +17,8 @@ use Rattle.chunk.specs.Check.{checkedOf, checkedAs}
 use Rattle.chunk.specs.Sums.{sumFits}
 use Rattle.sort.specs.Sort.{updates}
 use Rattle.form.specs.Form.{falls, inRange, formNumber, unsortedNumber}
-use Rattle.merge.specs.Merge.{Place, placeAt, soundAt, overflows, mergeNumber, suffixNumber}
-use Rattle.merge.specs.Survey.{surveyNumber}
+use Rattle.reports.specs.Merge.{Place, placeAt, soundAt, overflows, mergeNumber, suffixNumber}
+use Rattle.reports.specs.Survey.{surveyNumber}
 use Rattle.retain.specs.Frontier.{most, sound, ordered}
 use Rattle.retain.specs.Cut.{filterNumber, splitNumber}
 use Rattle.retain.specs.Extract.{extractNumber}

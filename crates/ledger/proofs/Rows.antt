@@ -14,7 +14,7 @@ use lib.Signed.{leZ, ltZ}
 use Rattle.chunk.specs.Entry.{Entry, change, before, same, every}
 use Rattle.chunk.specs.Sums.{sumFits}
 use Rattle.form.specs.Form.{falls, inRange}
-use Rattle.merge.specs.Merge.{overflows, overflowsAt, lastOr}
+use Rattle.reports.specs.Merge.{overflows, overflowsAt, lastOr}
 use Rattle.meld.specs.Meld.{follows, lastBefore}
 use Rattle.laws.proofs.Tests.{by-test, and-left, and-right, true-not-false}
 use Rattle.form.proofs.Formed.{or-left, or-right}

@@ -3,7 +3,7 @@ use Prim.Native.Nat.{ℕ}
 use mathlib.Core.Path.{_≡_, sym, ap, _∙_}
 use mathlib.Core.List.{List}
 use lib.ListN.{length}
-use Rattle.merge.specs.Merge.{mergeNumber, mergeOut}
+use Rattle.reports.specs.Merge.{mergeNumber, mergeOut}
 use Rattle.merge.specs.Outcome.{answerBy, mergeAnswer}
 use Rattle.whole.specs.Whole.{survives, wholeNumber, cleanOut, leftOut}
 use Rattle.ledger.specs.Settles.{Two, Three, CheckSettles, FormSettles, UnsortedSettles, FilterSettles, SplitSettles, SuffixSettles, MeldSettles, ContentsSettles, LayoutSettles, TableSettles, ChildSettles, EarlierSettles, BelowSettles, SortSettles, CopySettles, ShiftSettles, ExtractSettles, FrontierSettles, RunSettles, StartSettles, StepSettles, AdvanceSettles, BeginSettles, StepInPlaceSettles, StartInPlaceSettles, NextSettles, PlanSettles, SurveySettles, ListedSettles, MergeSettles, WholeSettles, ScratchIdle, WholeScratchIdle}

@@ -13,7 +13,7 @@ use Rattle.chunk.specs.Words.{entries, nt, limit}
 use Rattle.chunk.specs.Sums.{total}
 use Rattle.sort.specs.Sort.{updates, sort}
 use Rattle.form.specs.Form.{formed, falls, inRange, formNumber, formOut, unsortedNumber, unsortedOut}
-use Rattle.merge.specs.Merge.{merged, Place, Survives, nobody, theFirst, theSecond, mergeOut, suffixNumber, suffixOut}
+use Rattle.reports.specs.Merge.{merged, Place, Survives, nobody, theFirst, theSecond, mergeOut, suffixNumber, suffixOut}
 use Rattle.retain.specs.Frontier.{isOpen}
 use Rattle.retain.specs.Cut.{filterNumber, filterOut, splitNumber, splitFirst, splitRest}
 use Rattle.retain.specs.Extract.{extractNumber, keptOf, shippedOf, keptOut, shippedOut}
@@ -26,8 +26,8 @@ use Rattle.laws.proofs.Order.{keep-rising}
 use Rattle.sort.proofs.Updates.{count-whole}
 use Rattle.form.proofs.Sorted.{sort-every, sort-length, sort-unfallen}
 use Rattle.form.proofs.Formed.{formed-rises, formed-stands, formed-length, formed-total}
-use Rattle.merge.specs.Theorems.{leftOf}
-use Rattle.merge.proofs.Merged.{merged-rises, merged-short, totals-kept}
+use Rattle.reports.specs.Theorems.{leftOf}
+use Rattle.reports.proofs.Merged.{merged-rises, merged-short, totals-kept}
 use Rattle.retain.proofs.Records.{total-append, total-cut, total-keep, total-filtered, keep-every, keep-passes}
 use Rattle.ledger.specs.Ledger.{State, Call, form, formUnsorted, split, extract, meld, merge, start, at, without, withoutTwo, holds, holdsTwo, accepted, swap, restHeld, mergedState, after, run, heldTotal, callFits}
 use Rattle.ledger.proofs.Ordered.{Passed, passed}

@@ -10,8 +10,8 @@ use Rattle.chunk.specs.Words.{entries, size, nk, nt, limit}
 use Rattle.chunk.specs.Refusal.{Test, first, refuse, malformed, unsettled, empty}
 use Rattle.sort.specs.Sort.{updates}
 use Rattle.form.specs.Form.{falls, inRange, room, formNumber, unsortedNumber}
-use Rattle.merge.specs.Merge.{Place, soundAt, overflows, scratchRoom, mergeNumber, suffixNumber}
-use Rattle.merge.specs.Survey.{surveyNumber}
+use Rattle.reports.specs.Merge.{Place, soundAt, overflows, scratchRoom, mergeNumber, suffixNumber}
+use Rattle.reports.specs.Survey.{surveyNumber}
 use Rattle.retain.specs.Frontier.{most, sound}
 use Rattle.retain.specs.Cut.{filterNumber, splitNumber}
 use Rattle.retain.specs.Extract.{frontierOf, extractNumber}

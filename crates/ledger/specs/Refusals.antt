@@ -10,7 +10,7 @@ use lib.Signed.{mag, ltZ}
 use Rattle.chunk.specs.Entry.{Entry, change, before, same}
 use Rattle.chunk.specs.Words.{entries, size, nk, nv, nt, limit, wellFormed, settled}
 use Rattle.sort.specs.Sort.{updates}
-use Rattle.merge.specs.Merge.{Place, placeAt, lastOf, Survives, nobody, theFirst, theSecond, mergeOut}
+use Rattle.reports.specs.Merge.{Place, placeAt, lastOf, Survives, nobody, theFirst, theSecond, mergeOut}
 use Rattle.retain.specs.Frontier.{most, ordered}
 use Rattle.retain.specs.Extract.{frontierOf}
 use Rattle.whole.specs.Whole.{survives}

@@ -15,9 +15,10 @@ use Rattle.chunk.specs.Check.{checkedOf}
 use Rattle.sort.specs.Sort.{sortedWords}
 use Rattle.form.specs.Form.{FormAnswers, UnsortedAnswers}
 use Rattle.merge.specs.declared.Joined.{Joined}
-use Rattle.merge.specs.Merge.{Place, mergeNumber, suffixNumber, suffixOut}
-use Rattle.merge.specs.Outcome.{Refused, MergeAnswers}
-use Rattle.merge.specs.Run.{runOf}
+use Rattle.reports.specs.Merge.{Place, mergeNumber, suffixNumber, suffixOut}
+use Rattle.reports.specs.Refusals.{Refused}
+use Rattle.merge.specs.Outcome.{MergeAnswers}
+use Rattle.reports.specs.Run.{runOf}
 use Rattle.retain.specs.Cut.{filterNumber, filterOut, Split}
 use Rattle.retain.specs.declared.Extracted.{Extracted}
 use Rattle.retain.specs.declared.Frontier.{Frontier}

@@ -2,7 +2,7 @@
 use Prim.Native.Nat.{ℕ}
 use mathlib.Core.List.{List, [], _∷_}
 use lib.ListN.{replicate}
-use Rattle.merge.specs.Merge.{Place}
+use Rattle.reports.specs.Merge.{Place}
 
 -- the four updates (7,3,(1,5),+1), (7,3,(1,9),−1), (7,4,(2,0),+1), (9,3,(1,5),+2)
 abbrev pub fourUpdates : List ℕ

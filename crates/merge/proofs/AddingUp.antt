@@ -11,21 +11,21 @@ use Rattle.chunk.specs.Words.{entries}
 use Rattle.chunk.specs.Bodies.{diffs}
 use Rattle.chunk.specs.declared.Contents.{Contents}
 use Rattle.merge.specs.declared.Surveys.{Surveys}
-use Rattle.merge.specs.Gallop.{between}
-use Rattle.merge.specs.Merge.{overflows}
-use Rattle.merge.specs.Scratch.{reportsAt}
-use Rattle.merge.specs.Layers.{timeSurvey}
-use Rattle.merge.specs.Write.{AllServe}
-use Rattle.merge.specs.Tail.{overflowsBy}
-use Rattle.merge.specs.Woven.{Woven}
-use Rattle.merge.specs.Weft.{Whole}
-use Rattle.merge.specs.Mergeable.{Surveyed}
-use Rattle.merge.proofs.Moving.{reading}
-use Rattle.merge.proofs.Weaving.{time-woven}
-use Rattle.merge.proofs.Neighbours.{woven-covers}
-use Rattle.merge.proofs.Lying.{serves-covered}
-use Rattle.merge.proofs.Overflowing.{overflows-by}
-use Rattle.merge.proofs.WriteEntries.{diffs-all}
+use Rattle.reports.specs.Gallop.{between}
+use Rattle.reports.specs.Merge.{overflows}
+use Rattle.reports.specs.Scratch.{reportsAt}
+use Rattle.reports.specs.Layers.{timeSurvey}
+use Rattle.reports.specs.Write.{AllServe}
+use Rattle.reports.specs.Tail.{overflowsBy}
+use Rattle.reports.specs.Woven.{Woven}
+use Rattle.reports.specs.Whole.{Whole}
+use Rattle.merge.specs.Surveyed.{Surveyed}
+use Rattle.reports.proofs.Moving.{reading}
+use Rattle.reports.proofs.Weaving.{time-woven}
+use Rattle.reports.proofs.Neighbours.{woven-covers}
+use Rattle.reports.proofs.Lying.{serves-covered}
+use Rattle.reports.proofs.Overflowing.{overflows-by}
+use Rattle.reports.proofs.WriteEntries.{diffs-all}
 
 module _ (w : List ℕ) (c : Contents) (h : Whole w c) where
   its-rise : rising (entries w) ≡ true

@@ -1,5 +1,5 @@
 -- Along two ranges: the reports written so far, and that those of the rest complete them.
-use Prim.Native.Nat.{ℕ, zero, suc, _+_, _-_, _*_, _<_, _≤_}
+use Prim.Native.Nat.{ℕ, _+_, _-_, _*_, _<_, _≤_}
 use mathlib.Core.Path.{_≡_, refl, sym, _∙_, ap}
 use mathlib.Core.List.{List, [], _∷_, _++_, append-assoc, append-nil}
 use native.Mathlib.Omega.{arith}
@@ -7,38 +7,15 @@ use lib.ListN.{length, getD, length-append}
 use lib.Dec.{ltb, eqb}
 use borrow.Author.Tests.{ltb-true, ltb-false, eqb-true, eqb-false}
 use Rattle.laws.proofs.Tests.{by-test}
-use Rattle.merge.specs.Survey.{Report, this, that, both}
-use Rattle.merge.specs.Gallop.{Rises, runEnd}
-use Rattle.merge.specs.Scratch.{placed, wordsOf, reportWords, stepReport, spotAfter, PairRoom, pairOf}
+use Rattle.reports.specs.Survey.{Report}
+use Rattle.reports.specs.Gallop.{Rises, runEnd}
+use Rattle.reports.specs.Scratch.{placed, wordsOf, reportWords, stepReport, PairRoom, pairOf}
+use Rattle.merge.specs.Spots.{spotAfter}
 use Rattle.merge.specs.declared.Spot.{Spot}
-use Rattle.merge.proofs.Galloping.{run-long, run-within, rises-past, rises-on}
-use Rattle.merge.proofs.Placing.{placed-none, placed-twice, length-placed}
+use Rattle.reports.proofs.Galloping.{run-long, run-within, rises-past}
+use Rattle.reports.proofs.Placing.{placed-none, length-placed}
+use Rattle.reports.proofs.Words.{length-words, placed-more}
 use Rattle.merge.proofs.Stepping.{step-both, step-this, step-that, pair-step}
-
-words-three : (r : Report) → length (wordsOf r) ≡ 3
-words-three (this l h) = refl
-words-three (that l h) = refl
-words-three (both i j) = refl
-
-pub length-words : (rs : List Report) → length (reportWords rs) ≡ 3 * length rs
-unfolding reportWords
-length-words [] = refl
-length-words (r ∷ rs) = omega (arith, length-append (wordsOf r) (reportWords rs), words-three r, length-words rs)
-
-pub words-append : (rs ts : List Report) → reportWords (rs ++ ts) ≡ reportWords rs ++ reportWords ts
-unfolding reportWords
-words-append [] ts = refl
-words-append (r ∷ rs) ts = ap (λ (l : List ℕ). wordsOf r ++ l) (words-append rs ts) ∙ sym (append-assoc (wordsOf r) (reportWords rs) (reportWords ts))
-
--- more reports past those that are there
-pub placed-more : (from : ℕ) (done more : List Report) (s₀ s s′ : List ℕ) (at : ℕ) → s ≡ placed from (reportWords done) s₀ → at ≡ from + 3 * length done
-    → at ≤ length s₀ → s′ ≡ placed at (reportWords more) s → s′ ≡ placed from (reportWords (done ++ more)) s₀
-placed-more from done more s₀ s s′ at p q h r =
-    let e : at ≡ from + length (reportWords done) = omega (arith, length-words done) in
-    let room : from + length (reportWords done) ≤ length s₀ = omega arith in
-    r ∙ ap (λ (l : List ℕ). placed at (reportWords more) l) p ∙ ap (λ (n : ℕ). placed n (reportWords more) (placed from (reportWords done) s₀)) e
-    ∙ placed-twice from s₀ (reportWords done) (reportWords more) room
-    ∙ ap (λ (l : List ℕ). placed from l s₀) (sym (words-append done more))
 
 pub record Along (items0 : List ℕ) (from0 upper0 : ℕ) (items1 : List ℕ) (from1 upper1 : ℕ) (s₀ : List ℕ) (from : ℕ) (s : List ℕ) (lower0 lower1 at : ℕ) : Type 0 where
   pub done : List Report

@@ -15,30 +15,33 @@ use Rattle.laws.proofs.OneChunk.{front-is-chunk}
 use Rattle.chunk.specs.Words.{entries, tableSize, nt, nd, limit}
 use Rattle.chunk.specs.declared.Contents.{Contents}
 use Rattle.chunk.specs.Bodies.{lastsOf, sameKey, keys, vals, times, valEnds, timeEnds}
-use Rattle.merge.specs.Survey.{Report, this, that, both}
-use Rattle.merge.specs.Merge.{merged, survivor}
-use Rattle.merge.specs.Scratch.{reportAt, reportsAt, Layer, Covers}
-use Rattle.merge.specs.Write.{widths, entriesBy}
+use Rattle.reports.specs.Survey.{Report, this, that, both}
+use Rattle.reports.specs.Merge.{merged, survivor}
+use Rattle.reports.specs.Scratch.{reportAt, reportsAt, Layer, Covers}
+use Rattle.reports.specs.Write.{widths, entriesBy}
 use Rattle.merge.specs.declared.Surveys.{Surveys}
-use Rattle.merge.specs.Layers.{keySurvey, valSurvey, timeSurvey, LayersRoom, LayersSurveyed}
-use Rattle.merge.specs.Weft.{keyReports, valReports, timeReports, Whole, Weft, named}
-use Rattle.merge.specs.Mergeable.{Mergeable, Surveyed, SurveysStand, trimmedSpans, StartsIn, Trailing}
-use Rattle.merge.specs.Layered.{Layered}
-use Rattle.merge.specs.Orders.{keyLess, valLess}
-use Rattle.merge.specs.Tail.{trimmed, trailing, survivorBy}
-use Rattle.merge.specs.Woven.{Woven}
-use Rattle.merge.proofs.Trimming.{ending, trimmed-take, trimmed-short, trailing-ends, ending-with-both}
-use Rattle.merge.proofs.Moving.{Reading, reading}
+use Rattle.reports.specs.Layers.{keySurvey, valSurvey, timeSurvey, LayersRoom}
+use Rattle.merge.specs.Surveyed.{LayersSurveyed}
+use Rattle.merge.specs.Weft.{keyReports, valReports, timeReports, Weft, named}
+use Rattle.reports.specs.Whole.{Whole}
+use Rattle.reports.specs.Mergeable.{Mergeable, StartsIn, Trailing}
+use Rattle.merge.specs.Surveyed.{Surveyed, SurveysStand, trimmedSpans}
+use Rattle.reports.specs.Layered.{Layered}
+use Rattle.reports.specs.Orders.{keyLess, valLess}
+use Rattle.reports.specs.Tail.{trimmed, trailing, survivorBy}
+use Rattle.reports.specs.Woven.{Woven}
+use Rattle.reports.proofs.Trimming.{ending, trimmed-take, trimmed-short, trailing-ends, ending-with-both}
+use Rattle.reports.proofs.Moving.{Reading, reading}
 use Rattle.merge.proofs.Layering.{Shape, shape, covers-count}
-use Rattle.merge.proofs.Covering.{placed-read}
-use Rattle.merge.proofs.WriteEnds.{length-reports}
-use Rattle.merge.proofs.Joining.{merged-by}
-use Rattle.merge.proofs.Surviving.{Stopped, stopped, survivor-by}
-use Rattle.merge.proofs.Groupings.{Steps}
-use Rattle.merge.proofs.Weaving.{Both, parts, list-steps, key-steps, key-woven, val-woven, time-woven}
-use Rattle.merge.proofs.Neighbours.{ordered, woven-covers, level-trimmed, apart-trimmed}
-use Rattle.merge.proofs.Lying.{under-trimmed, inside-trimmed, widths-trimmed}
-use Rattle.merge.proofs.Bodies.{key-count, val-count, fewer}
+use Rattle.reports.proofs.Covering.{placed-read}
+use Rattle.reports.proofs.WriteEnds.{length-reports}
+use Rattle.reports.proofs.Joining.{merged-by}
+use Rattle.reports.proofs.Surviving.{Stopped, stopped, survivor-by}
+use Rattle.reports.proofs.Groupings.{Steps}
+use Rattle.reports.proofs.Weaving.{Both, parts, list-steps, key-steps, key-woven, val-woven, time-woven}
+use Rattle.reports.proofs.Neighbours.{ordered, woven-covers, level-trimmed, apart-trimmed}
+use Rattle.reports.proofs.Lying.{under-trimmed, inside-trimmed, widths-trimmed}
+use Rattle.reports.proofs.Bodies.{key-count, val-count, fewer}
 
 -- ---- the orders of keys and of values
 

@@ -14,17 +14,18 @@ use Rattle.chunk.proofs.WellFormed.{Parts, parts}
 use Rattle.laws.proofs.Layers.{Seven, ofEntries}
 use Rattle.laws.proofs.Frame.{inWords}
 use Rattle.laws.proofs.OneChunk.{bodies-in}
-use Rattle.merge.specs.Survey.{Report, this, that, both}
-use Rattle.merge.specs.Gallop.{between, Rises}
-use Rattle.merge.specs.Scratch.{placed, reportWords, reportsAt, pairOf, PairRoom, surveyed, Layer, Covers, SurveyRoom}
-use Rattle.merge.specs.Suffix.{Read}
-use Rattle.merge.specs.Layers.{keySurvey, valSurvey, timeSurvey, LayersRoom, LayersSurveyed}
+use Rattle.reports.specs.Survey.{Report, this, that, both}
+use Rattle.reports.specs.Gallop.{between, Rises}
+use Rattle.reports.specs.Scratch.{placed, reportWords, reportsAt, pairOf, PairRoom, surveyed, Layer, Covers, SurveyRoom}
+use Rattle.reports.specs.Read.{Read}
+use Rattle.reports.specs.Layers.{keySurvey, valSurvey, timeSurvey, LayersRoom}
+use Rattle.merge.specs.Surveyed.{LayersSurveyed}
 use Rattle.merge.specs.declared.Surveys.{Surveys}
-use Rattle.merge.proofs.Galloping.{length-between}
-use Rattle.merge.proofs.Placing.{length-placed}
-use Rattle.merge.proofs.Along.{length-words, placed-more}
-use Rattle.merge.proofs.Moving.{Reading, reading}
-use Rattle.merge.proofs.Covering.{pair-covers, survey-covers, layer-of, placed-read}
+use Rattle.reports.proofs.Galloping.{length-between}
+use Rattle.reports.proofs.Placing.{length-placed}
+use Rattle.reports.proofs.Words.{length-words, placed-more}
+use Rattle.reports.proofs.Moving.{Reading, reading}
+use Rattle.reports.proofs.Covering.{pair-covers, survey-covers, layer-of, placed-read}
 
 -- reports are no more than the items that they name
 pub covers-count : (n m i j : ℕ) (rs : List Report) → i ≤ n → j ≤ m → Covers n m i j rs → length rs ≤ n - i + (m - j)

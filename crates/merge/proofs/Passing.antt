@@ -18,14 +18,16 @@ use Rattle.chunk.specs.declared.Checked.{Checked}
 use Rattle.chunk.specs.declared.Contents.{Contents}
 use Rattle.chunk.proofs.WellFormed.{parts}
 use Rattle.merge.specs.declared.Joined.{Joined}
-use Rattle.merge.specs.Merge.{merged, Survives, nobody, survivor, overflows, scratchRoom, mergeNumber, mergeOut}
-use Rattle.merge.specs.Suffix.{Read}
-use Rattle.merge.specs.Outcome.{answerBy, mergeAnswer, Refused, MergeAnswers, inputOf, roomOf, SmallEach}
-use Rattle.merge.specs.Weft.{Whole}
-use Rattle.merge.specs.Mergeable.{Mergeable, SettledMerge}
-use Rattle.merge.proofs.Moving.{reading}
-use Rattle.merge.proofs.Refusing.{passed-check}
-use Rattle.merge.proofs.Bodies.{fewer}
+use Rattle.reports.specs.Merge.{merged, Survives, nobody, survivor, overflows, scratchRoom, mergeNumber, mergeOut}
+use Rattle.reports.specs.Read.{Read}
+use Rattle.merge.specs.Outcome.{answerBy, mergeAnswer, MergeAnswers}
+use Rattle.reports.specs.Refusals.{Refused, inputOf, roomOf, SmallEach}
+use Rattle.reports.specs.Whole.{Whole}
+use Rattle.reports.specs.Mergeable.{Mergeable}
+use Rattle.merge.specs.Surveyed.{SettledMerge}
+use Rattle.reports.proofs.Moving.{reading}
+use Rattle.reports.proofs.Refusing.{passed-check}
+use Rattle.reports.proofs.Bodies.{fewer}
 use Rattle.merge.proofs.Gluing.{Counted, counts}
 
 -- ---- the tests by their numbers

@@ -14,13 +14,14 @@ use Rattle.merge.specs.declared.Surveys.{Surveys}
 use Rattle.merge.specs.declared.Spans.{Spans}
 use Rattle.merge.specs.declared.Survivor.{Survivor}
 use Rattle.merge.specs.declared.Joined.{Joined}
-use Rattle.merge.specs.Merge.{overflows, survivor, merged, nobody}
-use Rattle.merge.specs.Scratch.{reportsAt}
-use Rattle.merge.specs.Tail.{survivorBy}
+use Rattle.reports.specs.Merge.{overflows, survivor, merged, nobody}
+use Rattle.reports.specs.Scratch.{reportsAt}
+use Rattle.reports.specs.Tail.{survivorBy}
 use Rattle.merge.specs.Weft.{Weft, named}
 use Rattle.merge.specs.Outcome.{answerBy, survivorOf}
-use Rattle.merge.specs.Mergeable.{Mergeable, Surveyed, Trailing, trimmedSpans, SettledMerge}
-use Rattle.merge.specs.Layers.{LayersSurveyed}
+use Rattle.reports.specs.Mergeable.{Mergeable, Trailing}
+use Rattle.merge.specs.Surveyed.{Surveyed, trimmedSpans, SettledMerge}
+use Rattle.merge.specs.Surveyed.{LayersSurveyed}
 use Rattle.merge.proofs.Gluing.{layers-surveyed, surveyed-weft, surveyed-merged, surveyed-trailing, surveyed-survivor}
 
 module _ (w0 : List ℕ) (c0 : Contents) (w1 : List ℕ) (c1 : Contents) (s s′ out : List ℕ) (r : Surveys)

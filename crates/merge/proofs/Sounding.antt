@@ -11,11 +11,11 @@ use Rattle.laws.proofs.Tests.{by-test, and-left, and-right}
 use Rattle.chunk.specs.Entry.{Entry}
 use Rattle.chunk.specs.Bodies.{valEnds, timeEnds}
 use Rattle.merge.specs.declared.Cursor.{Cursor}
-use Rattle.merge.specs.Survey.{below}
-use Rattle.merge.specs.Gallop.{between, runEnd}
-use Rattle.merge.specs.Merge.{Place, placeAt, soundAt}
+use Rattle.reports.specs.Survey.{below}
+use Rattle.reports.specs.Gallop.{between, runEnd}
+use Rattle.reports.specs.Merge.{Place, placeAt, soundAt}
 use Rattle.merge.specs.Suffix.{placeOf}
-use Rattle.merge.proofs.Cutting.{FromPlace, from-place}
+use Rattle.reports.proofs.Cutting.{FromPlace, from-place}
 
 module _ (w : List ℕ) (from to target r : ℕ) (ends : List ℕ) (e : r ≡ runEnd w from to target) where
   pub found-from : from ≤ r

@@ -20,23 +20,24 @@ use Rattle.chunk.specs.declared.Contents.{Contents}
 use Rattle.meld.proofs.Counts.{val-ends-count, time-ends-count, vals-fewer}
 use Rattle.merge.specs.declared.Cursor.{Cursor}
 use Rattle.merge.specs.declared.Spans.{Spans}
-use Rattle.merge.specs.Survey.{this, below}
-use Rattle.merge.specs.Scratch.{reportsAt}
+use Rattle.reports.specs.Survey.{this, below}
+use Rattle.reports.specs.Scratch.{reportsAt}
 use Rattle.merge.specs.Suffix.{placeOf, Ready}
-use Rattle.merge.specs.Woven.{apart}
-use Rattle.merge.specs.Write.{Run, ended, first, itemsBy, entriesBy, widths}
-use Rattle.merge.specs.Layered.{Layered}
-use Rattle.merge.specs.Weft.{Weft, Whole, named}
-use Rattle.merge.proofs.Bodies.{key-itself, list-itself}
-use Rattle.merge.proofs.Covering.{ends-last}
-use Rattle.merge.proofs.Cutting.{FromPlace}
-use Rattle.merge.proofs.Galloping.{length-between}
-use Rattle.merge.proofs.Moving.{Reading, reading}
-use Rattle.merge.proofs.Rows.{drop-apart, lasts-apart}
+use Rattle.reports.specs.Woven.{apart}
+use Rattle.reports.specs.Write.{Run, ended, first, itemsBy, entriesBy, widths}
+use Rattle.reports.specs.Layered.{Layered}
+use Rattle.merge.specs.Weft.{Weft, named}
+use Rattle.reports.specs.Whole.{Whole}
+use Rattle.reports.proofs.Bodies.{key-itself, list-itself}
+use Rattle.reports.proofs.Covering.{ends-last}
+use Rattle.reports.proofs.Cutting.{FromPlace}
+use Rattle.reports.proofs.Galloping.{length-between}
+use Rattle.reports.proofs.Moving.{Reading, reading}
+use Rattle.reports.proofs.Rows.{drop-apart, lasts-apart}
 use Rattle.merge.proofs.Sounding.{sound-place}
-use Rattle.merge.proofs.Surveying.{start-up}
+use Rattle.reports.proofs.Surveying.{start-up}
 use Rattle.merge.proofs.Wefting.{ends-rise}
-use Rattle.merge.proofs.WriteEntries.{diffs-all}
+use Rattle.reports.proofs.WriteEntries.{diffs-all}
 
 -- ---- the list of an item
 

@@ -9,13 +9,13 @@ use Rattle.chunk.specs.Words.{entries}
 use Rattle.chunk.specs.declared.Contents.{Contents}
 use Rattle.merge.specs.declared.Cursor.{Cursor}
 use Rattle.merge.specs.declared.Survivor.the-variants.{Nobody, First, Second}
-use Rattle.merge.specs.Survey.{Report}
-use Rattle.merge.specs.Scratch.{report, reportsAt}
-use Rattle.merge.specs.Merge.{Place, placeAt}
+use Rattle.reports.specs.Survey.{Report}
+use Rattle.reports.specs.Scratch.{report, reportsAt}
+use Rattle.reports.specs.Merge.{Place, placeAt}
 use Rattle.merge.specs.Suffix.{placeOf}
-use Rattle.merge.specs.Tail.{survivorBy}
+use Rattle.reports.specs.Tail.{survivorBy}
 use Rattle.merge.specs.Outcome.{survivorOf}
-use Rattle.merge.specs.Mergeable.{StartsIn, Trailing}
+use Rattle.reports.specs.Mergeable.{StartsIn, Trailing}
 
 module _ (es fs : List Entry) where
   starts-first : (k l h : ℕ) (rs : List Report) → k ≡ 0 → StartsIn es fs (report k l h ∷ rs) → l < length es

@@ -19,28 +19,29 @@ use Rattle.chunk.specs.declared.Contents.{Contents}
 use Rattle.meld.proofs.Append.{raised}
 use Rattle.meld.proofs.Counts.{val-ends-count, time-ends-count, diff-ends-count, times-count, keys-fewer, vals-fewer, diffs-fewer}
 use Rattle.merge.specs.declared.Spans.{Spans}
-use Rattle.merge.specs.Survey.{Report, this, that, both}
-use Rattle.merge.specs.Gallop.{between}
-use Rattle.merge.specs.Scratch.{placed, reportsAt}
-use Rattle.merge.specs.Suffix.{Read, Within}
-use Rattle.merge.specs.Write.{itemsBy, entriesBy, width, widths, Serves, AllServe, AllSome, Upward, Found, Counting, RunsRoom, EndsRoom, DiffsRoom, endsBy, diffsBy, diffEndsBy, layerBy}
-use Rattle.merge.specs.Layered.{Layered, BodiesBy}
-use Rattle.merge.specs.Weft.{Weft, Whole, keyReports, valReports, timeReports, named, placesFor, upperOf, middleOf, lowerOf}
-use Rattle.merge.proofs.Placing.{placed-twice, length-placed}
-use Rattle.merge.proofs.Galloping.{getD-between, length-between}
-use Rattle.merge.proofs.Moving.{Reading, reading}
-use Rattle.merge.proofs.WriteRuns.{length-named}
-use Rattle.merge.proofs.WriteUnder.{found, under-serves, under-some, serves-upward, inside-serves, inside-some}
-use Rattle.merge.proofs.WriteEntries.{times-by, diffs-by, diffs-all}
-use Rattle.merge.proofs.WriteDiffEnds.{settled-rise, diff-ends-by}
-use Rattle.merge.proofs.Rows.{rows-of, rows-rise}
-use Rattle.merge.proofs.Bodies.{bodies-by, key-count, val-count, key-itself, list-itself}
+use Rattle.reports.specs.Survey.{Report, this, that, both}
+use Rattle.reports.specs.Gallop.{between}
+use Rattle.reports.specs.Scratch.{placed, reportsAt}
+use Rattle.reports.specs.Read.{Read, Within}
+use Rattle.reports.specs.Write.{itemsBy, entriesBy, width, widths, Serves, AllServe, AllSome, Upward, Found, Counting, RunsRoom, EndsRoom, DiffsRoom, endsBy, diffsBy, diffEndsBy, layerBy}
+use Rattle.reports.specs.Layered.{Layered, BodiesBy}
+use Rattle.merge.specs.Weft.{Weft, keyReports, valReports, timeReports, named}
+use Rattle.reports.specs.Whole.{Whole, placesFor, upperOf, middleOf, lowerOf}
+use Rattle.reports.proofs.Placing.{placed-twice, length-placed}
+use Rattle.reports.proofs.Galloping.{getD-between, length-between}
+use Rattle.reports.proofs.Moving.{Reading, reading}
+use Rattle.reports.proofs.WriteRuns.{length-named}
+use Rattle.reports.proofs.WriteUnder.{found, under-serves, under-some, serves-upward, inside-serves, inside-some}
+use Rattle.reports.proofs.WriteEntries.{times-by, diffs-by, diffs-all}
+use Rattle.reports.proofs.WriteDiffEnds.{settled-rise, diff-ends-by}
+use Rattle.reports.proofs.Rows.{rows-of, rows-rise}
+use Rattle.reports.proofs.Bodies.{bodies-by, key-count, val-count, key-itself, list-itself}
 
 -- as many items as the reports' ranges are wide
 pub length-items : {A : Type 0} (a b : List A) (rs : List Report) → AllServe (length a) (length b) rs → length (itemsBy a b rs) ≡ widths rs
 unfolding itemsBy widths
 length-items a b [] v = refl
-length-items a b (r ∷ rs) v = length-append (Rattle.merge.specs.Write.named a b r) (itemsBy a b rs) ∙ (λ i. length-named a b r (v .0) i + length-items a b rs (v .1) i)
+length-items a b (r ∷ rs) v = length-append (Rattle.reports.specs.Write.named a b r) (itemsBy a b rs) ∙ (λ i. length-named a b r (v .0) i + length-items a b rs (v .1) i)
 
 -- words right past others that were placed
 next-placed : (at : ℕ) (ws vs out : List ℕ) {w w′ : List ℕ} (at′ : ℕ) → w ≡ placed at ws out → at′ ≡ at + length ws → at + length ws ≤ length out → w′ ≡ placed at′ vs w

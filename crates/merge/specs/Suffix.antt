@@ -4,25 +4,15 @@ use mathlib.Core.Bool.{true}
 use mathlib.Core.Path.{_≡_}
 use mathlib.Core.List.{List}
 use lib.ListN.{length}
-use Rattle.chunk.specs.Words.{wellFormed, settled, entries, size, nk, nv, nt, nd}
-use Rattle.chunk.specs.Contents.{layoutOf}
+use Rattle.chunk.specs.Words.{settled, entries, size}
 use Rattle.chunk.specs.declared.Contents.{Contents}
 use Rattle.merge.specs.declared.Cursor.{Cursor}
-use Rattle.merge.specs.Merge.{Place, soundAt}
+use Rattle.reports.specs.Merge.{Place, soundAt}
+use Rattle.reports.specs.Read.{Read}
 
 -- a cursor as a place
 abbrev pub placeOf : Cursor → Place
 placeOf c = record { k = c .k; v = c .v; t = c .t }
-
--- a range of words that is there
-pub record Within (src : List ℕ) (from to : ℕ) : Type 0 where
-  pub ordered : from ≤ to
-  pub within : to ≤ length src
-
--- a well formed slice with its contents
-pub record Read (w : List ℕ) (c : Contents) : Type 0 where
-  pub formed : wellFormed w ≡ true
-  pub contents : c ≡ layoutOf (nk w) (nv w) (nt w) (nd w)
 
 -- what a suffix is written from: a settled chunk, a cursor that is sound in it, and room
 pub record Ready (w : List ℕ) (c : Contents) (p : Cursor) (out : List ℕ) : Type 0 where

@@ -1,21 +1,17 @@
 -- What a chunk is written from (document 01, "Merge": "each layer is written into its own part of the output"): two settled chunks, and the
 -- reports of each layer in the scratch.
 use Prim.Native.Nat.{ℕ, _+_, _*_, _≤_}
-use mathlib.Core.Bool.{Bool, true, not}
-use mathlib.Core.Path.{_≡_}
-use mathlib.Core.List.{List, _++_}
+use mathlib.Core.List.{List}
 use lib.ListN.{length}
 use Rattle.chunk.specs.Entry.{Entry}
-use Rattle.chunk.specs.Bodies.{keys, valEnds, vals, timeEnds, times, diffEnds, diffs}
-use Rattle.chunk.specs.Contents.{layoutOf}
-use Rattle.chunk.specs.Words.{entries, settled, tableSize}
+use Rattle.chunk.specs.Words.{entries, tableSize}
 use Rattle.chunk.specs.declared.Contents.{Contents}
 use Rattle.merge.specs.declared.Spans.{Spans}
-use Rattle.merge.specs.Survey.{Report}
-use Rattle.merge.specs.Scratch.{reportsAt}
-use Rattle.merge.specs.Suffix.{Read}
-use Rattle.merge.specs.Write.{widths, entriesBy}
-use Rattle.merge.specs.Layered.{Layered}
+use Rattle.reports.specs.Survey.{Report}
+use Rattle.reports.specs.Scratch.{reportsAt}
+use Rattle.reports.specs.Write.{widths, entriesBy}
+use Rattle.reports.specs.Layered.{Layered}
+use Rattle.reports.specs.Whole.{Whole}
 
 -- the reports of the keys, of the values and of the times
 abbrev pub keyReports : List ℕ → Spans → List Report
@@ -29,12 +25,7 @@ valReports s p = reportsAt s (p .«vals_at») (p .vals)
 abbrev pub timeReports : List ℕ → Spans → List Report
 timeReports s p = reportsAt s (p .«times_at») (p .times)
 
--- a settled chunk with its contents
-pub record Whole (w : List ℕ) (c : Contents) : Type 0 where
-  pub chunk : Read w c
-  pub settles : settled w ≡ true
-
--- two of them, reports that lie under each other, and room for what they name
+-- two settled chunks with their contents, reports that lie under each other, and room for what they name
 pub record Weft (w0 : List ℕ) (c0 : Contents) (w1 : List ℕ) (c1 : Contents) (s : List ℕ) (p : Spans) (room : ℕ) : Type 0 where
   pub first : Whole w0 c0
   pub second : Whole w1 c1
@@ -48,19 +39,3 @@ pub record Weft (w0 : List ℕ) (c0 : Contents) (w1 : List ℕ) (c1 : Contents) 
 unfoldable pub named : List ℕ → List ℕ → List ℕ → Spans → List Entry
 unfolding entriesBy reportsAt
 named w0 w1 s p = entriesBy (entries w0) (entries w1) (timeReports s p)
-
--- where the bodies of their chunk stand, with room for a diff at each time
-abbrev pub placesFor : List Entry → Contents
-placesFor es = layoutOf (length (keys es)) (length (vals es)) (length (times es)) (length (times es))
-
--- the bodies down to the values
-unfoldable pub upperOf : List Entry → List ℕ
-upperOf es = keys es ++ (valEnds es ++ vals es)
-
--- the times'
-unfoldable pub middleOf : List Entry → List ℕ
-middleOf es = timeEnds es ++ times es
-
--- the diffs' own
-unfoldable pub lowerOf : List Entry → List ℕ
-lowerOf es = diffEnds es ++ diffs es

@@ -3,11 +3,12 @@ ghost use Prim.Native.Nat.{_+_};
 ghost use lib.ListN.{length};
 ghost use Rattle.chunk.specs.Words.{over, tableSize};
 ghost use Rattle.chunk.specs.Bodies.{chunkOf, diffs};
-ghost use Rattle.merge.specs.Gallop.{between};
-ghost use Rattle.merge.specs.Suffix.{Within};
-ghost use Rattle.merge.specs.Scratch.{placed, reportsAt};
-ghost use Rattle.merge.specs.Write.{EndsRoom, RunsRoom, DiffsRoom, itemsBy, diffsBy, diffEndsBy, layerBy};
-ghost use Rattle.merge.specs.Weft.{Weft, named, placesFor, upperOf, middleOf, lowerOf};
+ghost use Rattle.reports.specs.Gallop.{between};
+ghost use Rattle.reports.specs.Read.{Within};
+ghost use Rattle.reports.specs.Scratch.{placed, reportsAt};
+ghost use Rattle.reports.specs.Write.{EndsRoom, RunsRoom, DiffsRoom, itemsBy, diffsBy, diffEndsBy, layerBy};
+ghost use Rattle.merge.specs.Weft.{Weft, named};
+ghost use Rattle.reports.specs.Whole.{placesFor, upperOf, middleOf, lowerOf};
 use crate::Spans;
 use crate::write;
 

@@ -5,8 +5,8 @@ ghost use Prim.Native.Nat.{_≤_, _+_, _-_, _*_};
 ghost use lib.ListN.{length, take, drop};
 ghost use Rattle.chunk.specs.Words.{limit, rises};
 ghost use Rattle.meld.specs.Copy.{shiftedAll};
-ghost use Rattle.merge.specs.Scratch.{placed, reportAt, reportsAt};
-ghost use Rattle.merge.specs.Write.{Room, RunRoom, RunsRoom, named, itemsBy, width, widths, startsIn, insideFrom, groupSize, Serves, lowOf, listEnds, endsBy, Rising, Counting, ListRoom, EndsRoom, countedOn, InRow, diffOf, diffsBy, diffEndsBy, DiffsRoom, layerBy};
+ghost use Rattle.reports.specs.Scratch.{placed, reportAt, reportsAt};
+ghost use Rattle.reports.specs.Write.{Room, RunRoom, RunsRoom, named, itemsBy, width, widths, startsIn, insideFrom, groupSize, Serves, lowOf, listEnds, endsBy, Rising, Counting, ListRoom, EndsRoom, countedOn, InRow, diffOf, diffsBy, diffEndsBy, DiffsRoom, layerBy};
 
 // The kinds of a report: a run of the first input, a run of the second; any other is an item of both.
 use crate::THAT;

@@ -11,10 +11,10 @@ use lib.Dec.{ltb, eqb}
 use borrow.Author.Tests.{ltb-true, ltb-false}
 use Rattle.laws.proofs.Tests.{by-test}
 use Rattle.chunk.specs.Words.{nk, keyBody}
-use Rattle.merge.specs.Survey.{reports, surveyNumber}
-use Rattle.merge.specs.Survey.{Report as Said}
-use Rattle.merge.specs.Scratch.{pairOf}
-use Rattle.merge.proofs.Stepping.{pair-none}
+use Rattle.reports.specs.Survey.{reports, surveyNumber}
+use Rattle.reports.specs.Survey.{Report as Said}
+use Rattle.reports.specs.Scratch.{pairOf}
+use Rattle.reports.proofs.Ranges.{pair-none}
 use Rattle.survey.specs.Reports.{recordOf, nextIn, nextOf, nextBy, keysOf, inputNumber, countFor, surveyedOf, filledFor, filledOf}
 use Rattle.survey.specs.declared.Report.{Report}
 use Rattle.survey.specs.declared.Spot.{Spot}

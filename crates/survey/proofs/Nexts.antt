@@ -9,12 +9,13 @@ use lib.Seq.{take-all}
 use lib.Dec.{ltb, eqb}
 use borrow.Author.Tests.{lt-ltb, le-ltb, ltb-true, ltb-false, eqb-true, eqb-false}
 use Rattle.laws.proofs.Tests.{by-test}
-use Rattle.merge.specs.Survey.{this, that, both, reports, reportsFrom}
-use Rattle.merge.specs.Survey.{Report as Said}
-use Rattle.merge.specs.Gallop.{runEnd, between}
-use Rattle.merge.specs.Scratch.{stepReport, pairOf}
-use Rattle.merge.proofs.Galloping.{run-long, run-within}
-use Rattle.merge.proofs.Stepping.{reports-count, step-both, step-this, step-that, pair-none, pair-this, pair-that, pair-step}
+use Rattle.reports.specs.Survey.{this, that, both, reports, reportsFrom}
+use Rattle.reports.specs.Survey.{Report as Said}
+use Rattle.reports.specs.Gallop.{runEnd, between}
+use Rattle.reports.specs.Scratch.{stepReport, pairOf}
+use Rattle.reports.proofs.Galloping.{run-long, run-within}
+use Rattle.reports.proofs.Ranges.{reports-count, pair-none, pair-this, pair-that}
+use Rattle.merge.proofs.Stepping.{step-both, step-this, step-that, pair-step}
 use Rattle.survey.specs.Reports.{recordOf, nextBy, noNext, nextIn}
 use Rattle.survey.specs.declared.Next.{Next}
 

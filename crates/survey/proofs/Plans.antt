@@ -11,7 +11,7 @@ use borrow.Author.Tests.{leb-true, lt-ltb, le-ltb, ltb-false}
 use Rattle.laws.proofs.Tests.{by-test, and-left, and-right}
 use Rattle.chunk.specs.Words.{nk, nt, size, tableSize, tableFits, wellFormed, settled, keyBody}
 use Rattle.chunk.specs.Refusal.{Test, first, refuse, malformed, unsettled, empty}
-use Rattle.merge.specs.Survey.{reports, surveyNumber}
+use Rattle.reports.specs.Survey.{reports, surveyNumber}
 use Rattle.survey.specs.Reports.{keysOf, inputNumber, countFor, surveyedBy, surveyedOf}
 use Rattle.survey.specs.declared.Surveyed.{Surveyed}
 

@@ -7,9 +7,9 @@ use lib.Dec.{ltb, eqb}
 use lib.ListN.{length, drop, replicate}
 use Rattle.chunk.specs.Words.{keyBody, tableFits}
 use Rattle.chunk.specs.Refusal.{first, malformed, unsettled, empty}
-use Rattle.merge.specs.Survey.{this, that, both, reports, surveyNumber}
-use Rattle.merge.specs.Survey.{Report as Said}
-use Rattle.merge.specs.Scratch.{stepReport}
+use Rattle.reports.specs.Survey.{this, that, both, reports, surveyNumber}
+use Rattle.reports.specs.Survey.{Report as Said}
+use Rattle.reports.specs.Scratch.{stepReport}
 use Rattle.survey.specs.declared.Report.{Report}
 use Rattle.survey.specs.declared.Spot.{Spot}
 use Rattle.survey.specs.declared.Next.{Next}

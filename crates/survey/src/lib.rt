@@ -2,8 +2,8 @@
 ghost use mathlib.Core.Path.{_≡_};
 ghost use Prim.Native.Nat.{_≤_};
 ghost use lib.ListN.{length};
-ghost use Rattle.merge.specs.Gallop.{runEnd};
-ghost use Rattle.merge.specs.Survey.{reports};
+ghost use Rattle.reports.specs.Gallop.{runEnd};
+ghost use Rattle.reports.specs.Survey.{reports};
 ghost use Rattle.survey.specs.Reports.{nextIn, keysOf, nextOf, inputNumber, surveyedOf, filledOf, listedOf};
 
 // A report: kind 0 is a run of the first input's keys and 1 of the second's, from `low` up to `high`; 2 is a shared key at `low` in

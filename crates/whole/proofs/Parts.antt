@@ -5,7 +5,7 @@ use mathlib.Core.List.{List}
 use native.Mathlib.Omega.{arith}
 use Rattle.merge.specs.declared.Survivor.{Survivor}
 use Rattle.merge.specs.declared.Joined.{Joined}
-use Rattle.merge.specs.Merge.{Survives, nobody, theFirst, theSecond, mergeNumber, mergeOut}
+use Rattle.reports.specs.Merge.{Survives, nobody, theFirst, theSecond, mergeNumber, mergeOut}
 use Rattle.merge.specs.Outcome.{survivorOf, answerBy, mergeAnswer, MergeAnswers}
 use Rattle.retain.specs.Cut.{filterNumber, filterOut}
 use Rattle.whole.specs.Whole.{andThen, onceDone, survivesOf, survives, restNumber, restOut, wholeNumber, cleanOut, leftOut, WholeAnswers}

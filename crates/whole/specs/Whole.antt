@@ -7,8 +7,9 @@ use Rattle.chunk.specs.Words.{entries}
 use Rattle.merge.specs.declared.Survivor.{Survivor}
 use Rattle.merge.specs.declared.Survivor.the-variants.{Nobody, First, Second}
 use Rattle.merge.specs.declared.Joined.{Joined}
-use Rattle.merge.specs.Merge.{Survives, nobody, theFirst, theSecond, survivor, mergeNumber, mergeOut, suffixNumber, suffixOut}
-use Rattle.merge.specs.Outcome.{answerBy, Refused}
+use Rattle.reports.specs.Merge.{Survives, nobody, theFirst, theSecond, survivor, mergeNumber, mergeOut, suffixNumber, suffixOut}
+use Rattle.merge.specs.Outcome.{answerBy}
+use Rattle.reports.specs.Refusals.{Refused}
 use Rattle.retain.specs.Cut.{filterNumber, filterOut}
 
 -- one part's number, and the next one's where it is 0

@@ -1,7 +1,7 @@
 // Merge with its zero filter and the survivor's suffix, for a program that makes the three at once.
 ghost use mathlib.Core.Path.{_≡_};
 ghost use Prim.Native.Nat.{_<_};
-ghost use Rattle.merge.specs.Merge.{nobody};
+ghost use Rattle.reports.specs.Merge.{nobody};
 ghost use Rattle.merge.specs.Outcome.{answerBy};
 ghost use Rattle.whole.specs.Whole.{restNumber, restOut, survivesOf, WholeAnswers};
 use merge::Cursor;

@@ -1,5 +1,5 @@
 use mathlib.Core.Path.{_≡_, sym}
-use Rattle.merge.proofs.Running.{part-past, part-crossed, part-there, run-this, run-that, run-both, run-short, run-other, run-past}
+use Rattle.reports.proofs.Running.{part-past, part-crossed, part-there, run-this, run-that, run-both, run-short, run-other, run-past}
 use borrow.Author.Needs.{needs}
 use Rattle.merge.proofs.part_of.Statement.{statement}
 use Rattle.merge.proofs.part_of.Tie as tie

@@ -1,7 +1,7 @@
 use Prim.Native.Nat.{ℕ, _≤_, _<_, _+_}
 use native.Mathlib.Omega.{arith}
 use lib.ListN.{length, length-set}
-use Rattle.merge.proofs.Placing.{placed-three}
+use Rattle.reports.proofs.Placing.{placed-three}
 use borrow.Author.Needs.{needs}
 use Rattle.merge.proofs.put.Statement.{statement}
 use Rattle.merge.proofs.put.Tie as tie

@@ -1,5 +1,5 @@
 -- `merge::sound_at` meets its contract: by the place of the cursor's time.
-use Rattle.merge.proofs.Moving.{reading}
+use Rattle.reports.proofs.Moving.{reading}
 use Rattle.merge.proofs.Sounding.{no-time, no-list, its-list}
 use Rattle.merge.proofs.sound_at.Statement.{statement}
 use Rattle.merge.proofs.sound_at.Tie as tie

@@ -7,8 +7,8 @@ use lib.ListN.{length, getD}
 use denote.Ref.{now}
 use borrow.Author.Tests.{not-true, not-false}
 use Rattle.chunk.specs.Words.{settled, nt, size}
-use Rattle.merge.proofs.Moving.{Reading, reading}
-use Rattle.merge.proofs.Refusing.{Passed, refused-check, passed-check, not-formed, not-settled, no-entries, not-sound, no-room, taken}
+use Rattle.reports.proofs.Moving.{Reading, reading}
+use Rattle.reports.proofs.Refusing.{Passed, refused-check, passed-check, not-formed, not-settled, no-entries, not-sound, no-room, taken}
 use borrow.Author.Needs.{needs}
 use Rattle.merge.proofs.suffix_chunk.Statement.{statement}
 use Rattle.merge.proofs.suffix_chunk.Tie as tie

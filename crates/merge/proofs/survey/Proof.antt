@@ -4,7 +4,7 @@ use native.Mathlib.Omega.{arith}
 use borrow.Author.Needs.{needs}
 use lib.ListN.{length, getD}
 use denote.Ref.{now}
-use Rattle.merge.proofs.Surveying.{Surveying, surveying-none, surveying-length, one-room, surveying-more, surveying-all}
+use Rattle.reports.proofs.Surveying.{Surveying, surveying-none, surveying-length, one-room, surveying-more, surveying-all}
 use Rattle.merge.proofs.survey.Statement.{statement}
 use Rattle.merge.proofs.survey.Tie as tie
 use Rattle.merge.proofs.survey.Reads as reads

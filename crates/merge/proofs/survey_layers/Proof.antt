@@ -4,7 +4,7 @@ use native.Mathlib.Omega.{arith}
 use borrow.Author.Needs.{needs}
 use lib.ListN.{length, getD}
 use denote.Ref.{now}
-use Rattle.merge.proofs.Moving.{reading}
+use Rattle.reports.proofs.Moving.{reading}
 use Rattle.merge.proofs.Layering.{ordered, keys-room, keys-done, vals-room, vals-done, vals-past, times-room, times-done, times-length}
 use Rattle.merge.proofs.survey_layers.Statement.{statement}
 use Rattle.merge.proofs.survey_layers.Tie as tie

@@ -3,7 +3,7 @@ use mathlib.Core.Path.{_≡_, refl, sym, _∙_, ap}
 use native.Mathlib.Omega.{arith}
 use lib.ListN.{length, getD}
 use denote.Ref.{now}
-use Rattle.merge.proofs.Surveying.{run-written, one-this, one-that, named-this, named-that, pair-room, one-both}
+use Rattle.reports.proofs.Surveying.{run-written, one-this, one-that, named-this, named-that, pair-room, one-both}
 use borrow.Author.Needs.{needs}
 use Rattle.merge.proofs.survey_one.Statement.{statement}
 use Rattle.merge.proofs.survey_one.Tie as tie

@@ -5,10 +5,10 @@ use mathlib.Core.Path.{_≡_, refl, sym, _∙_, ap}
 use mathlib.Core.List.{List, [], _∷_}
 use native.Mathlib.Omega.{arith}
 use lib.ListN.{length, length-set}
-use Rattle.merge.specs.Survey.{this, that}
-use Rattle.merge.specs.Scratch.{placed, wordsOf, reportWords, pairOf, PairRoom}
-use Rattle.merge.proofs.Placing.{placed-none, length-placed}
-use Rattle.merge.proofs.Stepping.{pair-none, pair-this, pair-that}
+use Rattle.reports.specs.Survey.{this, that}
+use Rattle.reports.specs.Scratch.{placed, wordsOf, reportWords, pairOf, PairRoom}
+use Rattle.reports.proofs.Placing.{placed-none, length-placed}
+use Rattle.reports.proofs.Ranges.{pair-none, pair-this, pair-that}
 use Rattle.merge.proofs.Along.{Along, along-start, along-length, along-step, along-less, along-end}
 use Rattle.merge.proofs.survey_pair.Statement.{statement}
 use Rattle.merge.proofs.survey_pair.Tie as tie

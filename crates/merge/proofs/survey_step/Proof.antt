@@ -3,8 +3,8 @@ use Prim.Native.Nat.{ℕ, _≤_, _<_, _+_}
 use mathlib.Core.Path.{_≡_, refl, sym, _∙_, ap}
 use native.Mathlib.Omega.{arith}
 use lib.ListN.{length, length-set}
-use Rattle.merge.specs.Scratch.{placed, wordsOf}
-use Rattle.merge.proofs.Galloping.{rises-on}
+use Rattle.reports.specs.Scratch.{placed, wordsOf}
+use Rattle.reports.proofs.Galloping.{rises-on}
 use Rattle.merge.proofs.Stepping.{stepped-both, stepped-this, stepped-that}
 use borrow.Author.Needs.{needs}
 use Rattle.merge.proofs.survey_step.Statement.{statement}

@@ -5,9 +5,9 @@ use mathlib.Core.List.{List, []}
 use native.Mathlib.Omega.{arith}
 use lib.ListN.{length}
 use borrow.Author.Needs.{needs}
-use Rattle.merge.specs.Survey.{reports}
-use Rattle.merge.specs.Scratch.{pairOf}
-use Rattle.merge.proofs.Stepping.{pair-none}
+use Rattle.reports.specs.Survey.{reports}
+use Rattle.reports.specs.Scratch.{pairOf}
+use Rattle.reports.proofs.Ranges.{pair-none}
 use Rattle.survey.specs.Reports.{nextIn}
 use Rattle.survey.proofs.Nexts.{Turn, turn, pair-whole, count-within}
 use Rattle.survey.proofs.count_reports.Statement.{statement}

@@ -4,7 +4,7 @@ use Prim.Native.Nat.{ℕ, _<_, _≤_}
 use mathlib.Core.List.{List}
 use native.Mathlib.Omega.{arith}
 use lib.ListN.{getD}
-use Rattle.merge.specs.Survey.{this, that}
+use Rattle.reports.specs.Survey.{this, that}
 use Rattle.survey.specs.Reports.{nextBy}
 use Rattle.survey.proofs.Nexts.{next-none, next-that-left, next-this-left, next-both, next-this, next-that}
 use borrow.Author.Needs.{needs}

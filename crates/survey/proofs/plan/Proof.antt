@@ -5,7 +5,7 @@ use mathlib.Core.List.{List}
 use native.Mathlib.Omega.{arith}
 use lib.ListN.{length}
 use borrow.Author.Needs.{needs}
-use Rattle.merge.specs.Survey.{reports}
+use Rattle.reports.specs.Survey.{reports}
 use Rattle.survey.specs.Reports.{keysOf}
 use Rattle.survey.proofs.Plans.{plan-first, plan-second, plan-short, plan-room}
 use Rattle.survey.proofs.plan.Statement.{statement}

@@ -4,8 +4,8 @@ use mathlib.Core.Path.{_≡_, refl, sym, _∙_, ap}
 use native.Mathlib.Omega.{arith}
 use lib.ListN.{length, getD}
 use borrow.Author.Needs.{needs}
-use Rattle.merge.specs.Gallop.{runEnd}
-use Rattle.merge.proofs.Galloping.{no-run, run-on}
+use Rattle.reports.specs.Gallop.{runEnd}
+use Rattle.reports.proofs.Galloping.{no-run, run-on}
 use Rattle.survey.proofs.run_end.Statement.{statement}
 use Rattle.survey.proofs.run_end.Tie as tie
 use Rattle.survey.proofs.run_end.Reads as reads

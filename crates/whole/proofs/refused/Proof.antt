@@ -1,5 +1,5 @@
 -- `whole::refused` meets its contract: nobody survives a refusal.
-use Rattle.merge.proofs.Admitting.{a-refusal}
+use Rattle.merge.proofs.Answers.{a-refusal}
 use Rattle.whole.proofs.refused.Statement.{statement}
 use Rattle.whole.proofs.refused.Tie as tie
 use Rattle.whole.proofs.refused.Reads as reads

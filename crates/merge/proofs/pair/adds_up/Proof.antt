@@ -1,7 +1,7 @@
 -- `merge::pair::adds_up` meets its contract: the shared times are those that the survey names.
 use mathlib.Core.Path.{refl, _∙_}
 use native.Mathlib.Omega.{arith}
-use Rattle.merge.proofs.Moving.{reading}
+use Rattle.reports.proofs.Moving.{reading}
 use Rattle.merge.proofs.AddingUp.{stands-in, times-serve, sums-are}
 use borrow.Author.Needs.{needs}
 use Rattle.merge.proofs.pair.adds_up.Statement.{statement}

@@ -1,6 +1,6 @@
 -- `merge::pair::input_refusal` meets its contract: the tests in their order.
 use borrow.Author.Tests.{not-true, not-false}
-use Rattle.merge.proofs.Admitting.{not-formed, not-settled, without-times, taken}
+use Rattle.reports.proofs.Admitting.{not-formed, not-settled, without-times, taken}
 use Rattle.merge.proofs.pair.input_refusal.Statement.{statement}
 use Rattle.merge.proofs.pair.input_refusal.Tie as tie
 use Rattle.merge.proofs.pair.input_refusal.Reads as reads

@@ -2,8 +2,8 @@
 use native.Mathlib.Omega.{arith}
 use Prim.Native.Nat.{_≤_}
 use mathlib.Core.List.{[]}
-use Rattle.merge.proofs.Galloping.{run-within}
-use Rattle.merge.proofs.Moving.{reading}
+use Rattle.reports.proofs.Galloping.{run-within}
+use Rattle.reports.proofs.Moving.{reading}
 use Rattle.merge.proofs.Sounding.{found-from, found-list, place-found}
 use Rattle.merge.proofs.pair.place_at.Statement.{statement}
 use Rattle.merge.proofs.pair.place_at.Tie as tie

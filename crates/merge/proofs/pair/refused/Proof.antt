@@ -1,5 +1,5 @@
 -- `merge::pair::refused` meets its contract: nobody survives a refusal.
-use Rattle.merge.proofs.Admitting.{a-refusal}
+use Rattle.merge.proofs.Answers.{a-refusal}
 use Rattle.merge.proofs.pair.refused.Statement.{statement}
 use Rattle.merge.proofs.pair.refused.Tie as tie
 use Rattle.merge.proofs.pair.refused.Reads as reads

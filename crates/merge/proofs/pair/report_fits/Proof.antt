@@ -2,8 +2,8 @@
 use native.Mathlib.Omega.{arith}
 use Prim.Native.Nat.{_+_}
 use lib.ListN.{length, getD}
-use Rattle.merge.proofs.WriteEnds.{shared-serves}
-use Rattle.merge.proofs.Fitting.{run-fits, shared-fits}
+use Rattle.reports.proofs.WriteEnds.{shared-serves}
+use Rattle.reports.proofs.Fitting.{run-fits, shared-fits}
 use borrow.Author.Needs.{needs}
 use Rattle.merge.proofs.pair.report_fits.Statement.{statement}
 use Rattle.merge.proofs.pair.report_fits.Tie as tie

@@ -1,6 +1,6 @@
 -- `merge::pair::room_refusal` meets its contract: the tests in their order.
 use borrow.Author.Tests.{not-true, not-false}
-use Rattle.merge.proofs.Admitting.{too-many, too-narrow, too-short, enough}
+use Rattle.reports.proofs.Admitting.{too-many, too-narrow, too-short, enough}
 use borrow.Author.Needs.{needs}
 use Rattle.merge.proofs.pair.room_refusal.Statement.{statement}
 use Rattle.merge.proofs.pair.room_refusal.Tie as tie

@@ -4,7 +4,7 @@ use mathlib.Core.Path.{sym, _∙_, ap}
 use mathlib.Core.Bool.{not}
 use lib.Dec.{ltb}
 use borrow.Author.Tests.{lt-ltb, le-ltb}
-use Rattle.merge.proofs.Signs.{fits-apart, fits-across, fits-low, fits-high, not-below}
+use Rattle.reports.proofs.Signs.{fits-apart, fits-across, fits-low, fits-high, not-below}
 use borrow.Author.Needs.{needs}
 use Rattle.merge.proofs.pair.sum_fits.Statement.{statement}
 use Rattle.merge.proofs.pair.sum_fits.Tie as tie

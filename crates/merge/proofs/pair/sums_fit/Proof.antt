@@ -3,9 +3,9 @@ use native.Mathlib.Omega.{arith}
 use mathlib.Core.Path.{refl}
 use mathlib.Core.Bool.{not}
 use borrow.Author.Tests.{not-true, not-false}
-use Rattle.merge.specs.Scratch.{reportsAt}
-use Rattle.merge.specs.Tail.{overflowsBy}
-use Rattle.merge.proofs.Fitting.{Deciding, next-serves, next-decides, decides-not, all-decided}
+use Rattle.reports.specs.Scratch.{reportsAt}
+use Rattle.reports.specs.Tail.{overflowsBy}
+use Rattle.reports.proofs.Fitting.{Deciding, next-serves, next-decides, decides-not, all-decided}
 use Rattle.merge.proofs.pair.sums_fit.Statement.{statement}
 use Rattle.merge.proofs.pair.sums_fit.Tie as tie
 use Rattle.merge.proofs.pair.sums_fit.Reads as reads

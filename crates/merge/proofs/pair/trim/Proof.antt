@@ -1,7 +1,7 @@
 -- `merge::pair::trim` meets its contract: back over the runs of the last one's kind.
 use native.Mathlib.Omega.{arith}
 use mathlib.Core.Path.{refl}
-use Rattle.merge.proofs.TrimBack.{not-none, Back, back-none, back-more, back-found, back-shared, back-empty}
+use Rattle.reports.proofs.TrimBack.{not-none, Back, back-none, back-more, back-found, back-shared, back-empty}
 use Rattle.merge.proofs.pair.trim.Statement.{statement}
 use Rattle.merge.proofs.pair.trim.Tie as tie
 use Rattle.merge.proofs.pair.trim.Reads as reads

@@ -1,5 +1,5 @@
 -- `merge::pair::trim_surveys` meets its contract, survey by survey.
-use Rattle.merge.proofs.TrimBack.{spans-are}
+use Rattle.merge.proofs.Trimmed.{spans-are}
 use borrow.Author.Needs.{needs}
 use Rattle.merge.proofs.pair.trim_surveys.Statement.{statement}
 use Rattle.merge.proofs.pair.trim_surveys.Tie as tie

@@ -3,8 +3,8 @@ use native.Mathlib.Omega.{arith}
 use Prim.Native.Nat.{_+_, _≤_}
 use lib.ListN.{getD, length}
 use mathlib.Core.List.{[]}
-use Rattle.merge.proofs.WriteEnds.{shared-serves}
-use Rattle.merge.proofs.WriteDiffs.{run-ordered, run-counted, none-written, one-counted}
+use Rattle.reports.proofs.WriteEnds.{shared-serves}
+use Rattle.reports.proofs.WriteDiffs.{run-ordered, run-counted, none-written, one-counted}
 use borrow.Author.Needs.{needs}
 use Rattle.merge.proofs.write.count_diff.Statement.{statement}
 use Rattle.merge.proofs.write.count_diff.Tie as tie

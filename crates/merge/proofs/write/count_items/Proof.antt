@@ -2,9 +2,9 @@
 use native.Mathlib.Omega.{arith}
 use Prim.Native.Nat.{_+_}
 use mathlib.Core.Path.{refl}
-use Rattle.merge.specs.Scratch.{reportsAt}
-use Rattle.merge.specs.Write.{widths}
-use Rattle.merge.proofs.WriteEnds.{Tallying, next-rising, next-small, next-tally, no-more-tally}
+use Rattle.reports.specs.Scratch.{reportsAt}
+use Rattle.reports.specs.Write.{widths}
+use Rattle.reports.proofs.WriteEnds.{Tallying, next-rising, next-small, next-tally, no-more-tally}
 use Rattle.merge.proofs.write.count_items.Statement.{statement}
 use Rattle.merge.proofs.write.count_items.Tie as tie
 use Rattle.merge.proofs.write.count_items.Reads as reads

@@ -5,8 +5,8 @@ use native.Mathlib.Omega.{arith}
 use lib.ListN.{length, length-set}
 use borrow.Author.Needs.{needs}
 use Rattle.meld.proofs.Copy.{partly, stepped, copied-all}
-use Rattle.merge.specs.Write.{countedOn}
-use Rattle.merge.proofs.WriteRows.{length-counted, getD-counted, copied-whole}
+use Rattle.reports.specs.Write.{countedOn}
+use Rattle.reports.proofs.WriteRows.{length-counted, getD-counted, copied-whole}
 use Rattle.merge.proofs.write.count_on.Statement.{statement}
 use Rattle.merge.proofs.write.count_on.Tie as tie
 use Rattle.merge.proofs.write.count_on.Reads as reads

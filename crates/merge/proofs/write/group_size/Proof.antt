@@ -3,7 +3,7 @@ use native.Mathlib.Omega.{arith}
 use borrow.Author.Needs.{needs}
 use Prim.Native.Nat.{_+_, _≤_}
 use lib.ListN.{getD, length}
-use Rattle.merge.proofs.WriteEnds.{one-under, some-under, shared-serves}
+use Rattle.reports.proofs.WriteEnds.{one-under, some-under, shared-serves}
 use Rattle.merge.proofs.write.group_size.Statement.{statement}
 use Rattle.merge.proofs.write.group_size.Tie as tie
 use Rattle.merge.proofs.write.group_size.Reads as reads

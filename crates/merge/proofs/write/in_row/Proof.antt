@@ -4,7 +4,7 @@ use mathlib.Core.Path.{_≡_, sym}
 use native.Mathlib.Omega.{arith}
 use borrow.Author.Tests.{eqb-true}
 use Rattle.laws.proofs.Tests.{true-not-false}
-use Rattle.merge.proofs.WriteRows.{goes-up}
+use Rattle.reports.proofs.WriteRows.{goes-up}
 use lib.ListN.{getD}
 use borrow.Author.Needs.{needs}
 use Rattle.merge.proofs.write.in_row.Statement.{statement}

@@ -3,9 +3,9 @@ use native.Mathlib.Omega.{arith}
 use mathlib.Core.Path.{refl}
 use lib.ListN.{length}
 use borrow.Author.Tests.{not-true, not-false}
-use Rattle.merge.specs.Scratch.{reportsAt}
-use Rattle.merge.specs.Write.{insideFrom}
-use Rattle.merge.proofs.WriteEnds.{Finding, found-last, found-more, found-all}
+use Rattle.reports.specs.Scratch.{reportsAt}
+use Rattle.reports.specs.Write.{insideFrom}
+use Rattle.reports.proofs.WriteEnds.{Finding, found-last, found-more, found-all}
 use Rattle.merge.proofs.write.inside.Statement.{statement}
 use Rattle.merge.proofs.write.inside.Tie as tie
 use Rattle.merge.proofs.write.inside.Reads as reads

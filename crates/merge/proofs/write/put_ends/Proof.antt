@@ -1,8 +1,8 @@
 -- `merge::write::put_ends` meets its contract.
 use mathlib.Core.Path.{refl}
 use native.Mathlib.Omega.{arith}
-use Rattle.merge.proofs.WriteRuns.{put-ends-placed}
-use Rattle.merge.proofs.WriteRows.{row-placed}
+use Rattle.reports.proofs.WriteRuns.{put-ends-placed}
+use Rattle.reports.proofs.WriteRows.{row-placed}
 use borrow.Author.Needs.{needs}
 use Rattle.merge.proofs.write.put_ends.Statement.{statement}
 use Rattle.merge.proofs.write.put_ends.Tie as tie

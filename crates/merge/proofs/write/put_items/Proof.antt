@@ -1,6 +1,6 @@
 -- `merge::write::put_items` meets its contract.
 use mathlib.Core.Path.{refl}
-use Rattle.merge.proofs.WriteRuns.{put-items-placed}
+use Rattle.reports.proofs.WriteRuns.{put-items-placed}
 use borrow.Author.Needs.{needs}
 use Rattle.merge.proofs.write.put_items.Statement.{statement}
 use Rattle.merge.proofs.write.put_items.Tie as tie

@@ -1,6 +1,6 @@
 -- `merge::write::put_lists` meets its contract.
 use native.Mathlib.Omega.{arith}
-use Rattle.merge.proofs.WriteEnds.{one-more, lists-long}
+use Rattle.reports.proofs.WriteEnds.{one-more, lists-long}
 use borrow.Author.Needs.{needs}
 use Rattle.merge.proofs.write.put_lists.Statement.{statement}
 use Rattle.merge.proofs.write.put_lists.Tie as tie

@@ -1,7 +1,7 @@
 -- `merge::write::starts_in` meets its contract.
 use Prim.Native.Nat.{_+_, _≤_}
 use lib.ListN.{getD, length}
-use Rattle.merge.proofs.WriteEnds.{starts-that, starts-other}
+use Rattle.reports.proofs.WriteEnds.{starts-that, starts-other}
 use borrow.Author.Needs.{needs}
 use Rattle.merge.proofs.write.starts_in.Statement.{statement}
 use Rattle.merge.proofs.write.starts_in.Tie as tie

@@ -2,7 +2,7 @@
 use native.Mathlib.Omega.{arith}
 use Prim.Native.Nat.{_+_, _≤_}
 use lib.ListN.{getD, length}
-use Rattle.merge.proofs.WriteEnds.{width-one, range-up, width-range}
+use Rattle.reports.proofs.WriteEnds.{width-one, range-up, width-range}
 use borrow.Author.Needs.{needs}
 use Rattle.merge.proofs.write.width_of.Statement.{statement}
 use Rattle.merge.proofs.write.width_of.Tie as tie

@@ -2,8 +2,8 @@
 use native.Mathlib.Omega.{arith}
 use Prim.Native.Nat.{_+_, _≤_}
 use lib.ListN.{getD, length}
-use Rattle.merge.proofs.WriteEnds.{shared-serves}
-use Rattle.merge.proofs.WriteDiffs.{run-written, none-written, one-written, wide-shared}
+use Rattle.reports.proofs.WriteEnds.{shared-serves}
+use Rattle.reports.proofs.WriteDiffs.{run-written, none-written, one-written, wide-shared}
 use borrow.Author.Needs.{needs}
 use Rattle.merge.proofs.write.write_diff.Statement.{statement}
 use Rattle.merge.proofs.write.write_diff.Tie as tie

@@ -1,9 +1,9 @@
 -- `merge::write::write_diff_ends` meets its contract: with the reports that are left the ends are whole.
 use native.Mathlib.Omega.{arith}
 use mathlib.Core.Path.{refl}
-use Rattle.merge.specs.Scratch.{placed, reportsAt}
-use Rattle.merge.specs.Write.{diffEndsBy}
-use Rattle.merge.proofs.WriteDiffs.{Tailing, tail-count, tail-room, next-tailing, no-more-tail}
+use Rattle.reports.specs.Scratch.{placed, reportsAt}
+use Rattle.reports.specs.Write.{diffEndsBy}
+use Rattle.reports.proofs.WriteDiffs.{Tailing, tail-count, tail-room, next-tailing, no-more-tail}
 use Rattle.merge.proofs.write.write_diff_ends.Statement.{statement}
 use Rattle.merge.proofs.write.write_diff_ends.Tie as tie
 use Rattle.merge.proofs.write.write_diff_ends.Reads as reads

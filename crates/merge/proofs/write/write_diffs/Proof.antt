@@ -3,9 +3,9 @@ use native.Mathlib.Omega.{arith}
 use Prim.Native.Nat.{_+_}
 use mathlib.Core.Path.{refl}
 use lib.ListN.{length}
-use Rattle.merge.specs.Scratch.{placed, reportsAt}
-use Rattle.merge.specs.Write.{diffsBy}
-use Rattle.merge.proofs.WriteDiffs.{Laying, next-diff, next-laying, no-more-diffs}
+use Rattle.reports.specs.Scratch.{placed, reportsAt}
+use Rattle.reports.specs.Write.{diffsBy}
+use Rattle.reports.proofs.WriteDiffs.{Laying, next-diff, next-laying, no-more-diffs}
 use Rattle.merge.proofs.write.write_diffs.Statement.{statement}
 use Rattle.merge.proofs.write.write_diffs.Tie as tie
 use Rattle.merge.proofs.write.write_diffs.Reads as reads

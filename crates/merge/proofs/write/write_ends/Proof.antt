@@ -2,9 +2,9 @@
 use native.Mathlib.Omega.{arith}
 use borrow.Author.Needs.{needs}
 use mathlib.Core.Path.{refl}
-use Rattle.merge.specs.Scratch.{placed, reportsAt}
-use Rattle.merge.specs.Write.{endsBy}
-use Rattle.merge.proofs.WriteEnds.{Ending, group-room, size-some, count-room, list-room, next-ending, no-more-ends}
+use Rattle.reports.specs.Scratch.{placed, reportsAt}
+use Rattle.reports.specs.Write.{endsBy}
+use Rattle.reports.proofs.WriteEnds.{Ending, group-room, size-some, count-room, list-room, next-ending, no-more-ends}
 use Rattle.merge.proofs.write.write_ends.Statement.{statement}
 use Rattle.merge.proofs.write.write_ends.Tie as tie
 use Rattle.merge.proofs.write.write_ends.Reads as reads

@@ -1,9 +1,9 @@
 -- `merge::write::write_items` meets its contract: with the reports that are left the output is whole.
 use mathlib.Core.Path.{refl}
 use native.Mathlib.Omega.{arith}
-use Rattle.merge.specs.Scratch.{placed, reportsAt}
-use Rattle.merge.specs.Write.{itemsBy}
-use Rattle.merge.proofs.WriteRuns.{Writing, next-room, next-writing, no-more}
+use Rattle.reports.specs.Scratch.{placed, reportsAt}
+use Rattle.reports.specs.Write.{itemsBy}
+use Rattle.reports.proofs.WriteRuns.{Writing, next-room, next-writing, no-more}
 use Rattle.merge.proofs.write.write_items.Statement.{statement}
 use Rattle.merge.proofs.write.write_items.Tie as tie
 use Rattle.merge.proofs.write.write_items.Reads as reads

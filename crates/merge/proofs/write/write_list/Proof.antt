@@ -2,7 +2,7 @@
 use native.Mathlib.Omega.{arith}
 use Prim.Native.Nat.{_+_}
 use mathlib.Core.Path.{refl}
-use Rattle.merge.proofs.WriteEnds.{this-lists, that-lists, both-fits, this-ends, that-ends, both-ends}
+use Rattle.reports.proofs.WriteEnds.{this-lists, that-lists, both-fits, this-ends, that-ends, both-ends}
 use borrow.Author.Needs.{needs}
 use Rattle.merge.proofs.write.write_list.Statement.{statement}
 use Rattle.merge.proofs.write.write_list.Tie as tie

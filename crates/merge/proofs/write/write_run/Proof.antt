@@ -1,6 +1,6 @@
 -- `merge::write::write_run` meets its contract, by the kind of the report.
 use native.Mathlib.Omega.{arith}
-use Rattle.merge.proofs.WriteRuns.{this-room, that-room, both-room, this-written, that-written, both-written}
+use Rattle.reports.proofs.WriteRuns.{this-room, that-room, both-room, this-written, that-written, both-written}
 use borrow.Author.Needs.{needs}
 use Rattle.merge.proofs.write.write_run.Statement.{statement}
 use Rattle.merge.proofs.write.write_run.Tie as tie

@@ -1,0 +1,17 @@
+pub mod Merge
+pub mod Survey
+pub mod Theorems
+pub mod Gallop
+pub mod Scratch
+pub mod Examples
+pub mod Run
+pub mod Layers
+pub mod Write
+pub mod Tail
+pub mod Woven
+pub mod Orders
+pub mod Layered
+pub mod Mergeable
+pub mod Read
+pub mod Refusals
+pub mod Whole

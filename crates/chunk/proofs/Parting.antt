@@ -49,7 +49,7 @@ divided low top (e ∷ ends) items (suc m) h k =
     ∙ and-joins (rises (take (e - low) items)) _ _
 
 -- words cut behind, then before
-drop-take : (k n : ℕ) (l : List ℕ) → drop k (take (k + n) l) ≡ take n (drop k l)
+pub drop-take : (k n : ℕ) (l : List ℕ) → drop k (take (k + n) l) ≡ take n (drop k l)
 drop-take zero n l = rw (zero-add n)
 drop-take (suc k) n [] = rw (suc-add k n) (sym (take-nil n))
 drop-take (suc k) n (x ∷ l) = rw (suc-add k n) (drop-take k n l)

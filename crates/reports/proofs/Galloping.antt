@@ -13,6 +13,7 @@ use native.Mathlib.Numerals.{add-one}
 use borrow.Author.Tests.{lt-ltb, le-ltb, ltb-true, ltb-false}
 use Rattle.laws.proofs.Tests.{by-test, and-left, and-right, and-both, true-not-false}
 use Rattle.chunk.specs.Words.{rises, risesFrom}
+use Rattle.chunk.proofs.Parting.{drop-take}
 use Rattle.reports.specs.Survey.{below}
 use Rattle.reports.specs.Gallop.{between, belowAt, Doubled, settled, Reached, Rises, runEnd}
 
@@ -200,11 +201,6 @@ rises-past items from upper to h k r = let e : from + (to - from) ≡ to = omega
 
 pub between-none : (from upper : ℕ) (items : List ℕ) → upper ≤ from → between from upper items ≡ []
 between-none from upper items h = let e : upper - from ≡ 0 = omega arith in rw e
-
-drop-take : (k n : ℕ) (l : List ℕ) → drop k (take (k + n) l) ≡ take n (drop k l)
-drop-take zero n l = rw (native.Mathlib.Nat.zero-add n)
-drop-take (suc k) n [] = rw (native.Mathlib.Nat.suc-add k n) (sym (lib.Seq.take-nil n))
-drop-take (suc k) n (x ∷ l) = rw (native.Mathlib.Nat.suc-add k n) (drop-take k n l)
 
 -- the items past some of a range are those that are left of it
 pub between-past : (from upper k : ℕ) (items : List ℕ) → from + k ≤ upper → drop k (between from upper items) ≡ between (from + k) upper items

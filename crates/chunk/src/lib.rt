@@ -434,7 +434,7 @@ fn all_or_none(nk: usize, nv: usize, nt: usize) -> bool
     0 < nt
 }
 
-// Whether the bodies hold of a slice with these contents, whose counts do. They are read from the last to the first, so that a call that goes on from the first has that at hand.
+// Whether the bodies hold of a slice with these contents, whose counts do. The layers are read from the last to the first, so that a call that goes on from the first has that at hand.
 fn layers_hold(words: &[u64], found: Contents) -> bool
     requires { ⌜ Placed found (now words) × Counted found ⌝ }
     ensures { λ r. ⌜ r ≡ wellFormed (now (words .entry)) ⌝ }

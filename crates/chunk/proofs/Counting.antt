@@ -69,7 +69,7 @@ step-first low e top ends h =
     (λ m. simp (k, m)))
 
 -- so to rise by as much is to step by as much
-steps : (low top : ℕ) (ends : List ℕ) → top ≡ low + length ends → endsStep low ends top ≡ endsRise low ends top
+pub steps : (low top : ℕ) (ends : List ℕ) → top ≡ low + length ends → endsStep low ends top ≡ endsRise low ends top
 unfolding endsStep endsRise
 steps low top [] h = refl
 steps low top (e ∷ ends) h =

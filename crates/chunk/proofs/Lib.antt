@@ -7,3 +7,4 @@ pub mod Falling
 pub mod Parting
 pub mod Rowing
 pub mod Stepping
+pub mod Looking

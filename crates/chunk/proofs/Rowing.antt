@@ -16,6 +16,7 @@ use Rattle.chunk.specs.Entry.{every}
 use Rattle.chunk.specs.Words.{wellFormed, nk, nv, nt, nd, limit, tableSize, size, allOrNone, endsRise, endsStep, rises, lists, keyBody, valEndBody, valBody, timeEndBody, timeBody, diffEndBody, diffBody}
 use Rattle.chunk.specs.Contents.{Placed}
 use Rattle.chunk.specs.Falls.{fall, fallsFrom, fallsOf}
+use Rattle.chunk.specs.Beside.{standing}
 use Rattle.chunk.specs.Rows.{countsUp, Rows, Level, Counted}
 use Rattle.chunk.proofs.Tests.{and-left, and-right, and-both, and-true, and-joins, bool-eq}
 use Rattle.chunk.proofs.Counting.{marked, alone, stepped}
@@ -28,10 +29,6 @@ before-first : (l : List ℕ) → 0 < length l → fallsFrom 0 l ≡ fall 0 (get
 unfolding fallsFrom fallsOf
 before-first [] h = absurd (omega arith)
 before-first (a ∷ l) h = refl
-
--- no diff is 0
-abbrev pub standing : List ℕ → Bool
-standing ds = every (λ (d : ℕ). not (eqb d 0)) ds
 
 -- one diff more
 pub stood : (ds : List ℕ) (i : ℕ) → i < length ds → standing (drop i ds) ≡ (not (eqb (getD ds i 0) 0) && standing (drop (i + 1) ds))

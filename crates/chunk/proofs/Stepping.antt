@@ -10,8 +10,9 @@ use lib.Seq.{drop-cons, take-all}
 use lib.Dec.{eqb}
 use Rattle.chunk.specs.Entry.{every}
 use Rattle.chunk.specs.Words.{endsStep}
+use Rattle.chunk.specs.Beside.{standing}
 use Rattle.chunk.proofs.Tests.{and-false, and-true, and-joins}
-use Rattle.chunk.proofs.Rowing.{standing, stood}
+use Rattle.chunk.proofs.Rowing.{stood}
 
 -- the words from a place to the last
 pub to-last : (n : ℕ) (l : List ℕ) → take (length l - n) (drop n l) ≡ drop n l

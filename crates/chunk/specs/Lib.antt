@@ -3,6 +3,7 @@ pub mod Time
 pub mod Bodies
 pub mod Words
 pub mod Falls
+pub mod Beside
 pub mod Contents
 pub mod Rows
 pub mod Refusal

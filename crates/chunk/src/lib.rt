@@ -10,6 +10,10 @@ ghost use Rattle.chunk.specs.Rows.{countsUp, Rows, Level, Counted};
 ghost use mathlib.Core.Bool.{true, not, _&&_, _||_};
 ghost use lib.Dec.{eqb};
 ghost use lib.ListN.{length};
+ghost use Rattle.chunk.specs.Beside.{standing, changesHold};
+use beside::times_hold;
+
+mod beside;
 
 // What the contents table says: the four counts, where each body starts, and the chunk's size.
 pub struct Contents {
@@ -39,6 +43,13 @@ pub struct Checked {
     pub number: u64,
     pub settled: bool,
     pub contents: Contents,
+}
+
+// What a look over times finds: how many of them are falls, whether the changes beside them hold so far, and how many diffs end there.
+pub struct Seen {
+    pub fell: usize,
+    pub good: bool,
+    pub reach: u64,
 }
 
 // The most times that a chunk may have.
@@ -343,7 +354,7 @@ fn ends_near(low: u64, ends: &[u64], top: u64) -> bool
 
 // Whether no diff is 0. It reads every diff, with no exit before the last.
 fn diffs_stand(diffs: &[u64]) -> bool
-    ensures { λ r. ⌜ r ≡ every (λ (d : ℕ). not (eqb d 0)) (now (diffs .entry)) ⌝ }
+    ensures { λ r. ⌜ r ≡ standing (now (diffs .entry)) ⌝ }
 {
     let mut good = true;
     let mut i = 0;
@@ -359,7 +370,7 @@ fn diffs_stand(diffs: &[u64]) -> bool
 // Whether the diff ends step up to the count of the diffs and no diff is 0, where there are no more diffs than ends. The two are read side by side as far as both go.
 fn steps_hold(ends: &[u64], diffs: &[u64]) -> bool
     requires { ⌜ length (now diffs) ≤ length (now ends) ⌝ }
-    ensures { λ r. ⌜ r ≡ (endsStep 0 (now (ends .entry)) (length (now (diffs .entry))) && every (λ (d : ℕ). not (eqb d 0)) (now (diffs .entry))) ⌝ }
+    ensures { λ r. ⌜ r ≡ changesHold 0 (now (ends .entry)) (now (diffs .entry)) (length (now (diffs .entry))) ⌝ }
 {
     let count = diffs.len();
     let mut good = true;
@@ -376,7 +387,7 @@ fn steps_hold(ends: &[u64], diffs: &[u64]) -> bool
 
 // What `steps_hold` says, of any ends and diffs. As many ends as diffs step by one each, and fewer can't reach their count.
 fn changes_hold(ends: &[u64], diffs: &[u64]) -> bool
-    ensures { λ r. ⌜ r ≡ (endsStep 0 (now (ends .entry)) (length (now (diffs .entry))) && every (λ (d : ℕ). not (eqb d 0)) (now (diffs .entry))) ⌝ }
+    ensures { λ r. ⌜ r ≡ changesHold 0 (now (ends .entry)) (now (diffs .entry)) (length (now (diffs .entry))) ⌝ }
 {
     if ends.len() < diffs.len() {
         return false;
@@ -385,6 +396,20 @@ fn changes_hold(ends: &[u64], diffs: &[u64]) -> bool
         return counts_up(ends) & diffs_stand(diffs);
     }
     steps_hold(ends, diffs)
+}
+
+// Whether the lists of times rise and the changes hold. Where each list can have one time only, the ends alone tell of the times.
+fn lower_holds(time_ends: &[u64], times: &[u64], diff_ends: &[u64], diffs: &[u64]) -> bool
+    requires { ⌜ length (now «diff_ends») ≡ length (now times) ⌝ }
+    ensures { λ r. ⌜ r ≡ (changesHold 0 (now («diff_ends» .entry)) (now (diffs .entry)) (length (now (diffs .entry))) && (endsRise 0 (now («time_ends» .entry)) (length (now (times .entry))) && every rises (lists 0 (now («time_ends» .entry)) (now (times .entry))))) ⌝ }
+{
+    if time_ends.len() == times.len() {
+        return changes_hold(diff_ends, diffs) & counts_up(time_ends);
+    }
+    if times.len() < diffs.len() {
+        return false;
+    }
+    times_hold(time_ends, times, diff_ends, diffs)
 }
 
 // Whether keys with one value, one time and one diff each hold: the keys rise, each of the ends is one more than the one before it, and no diff is 0. The five bodies are read side by side, so that their words come in at once.
@@ -396,7 +421,7 @@ fn rows_hold(
     diffs: &[u64],
 ) -> bool
     requires { ⌜ Rows (now keys) (now «val_ends») (now «time_ends») (now «diff_ends») (now diffs) ⌝ }
-    ensures { λ r. ⌜ r ≡ (rises (now (keys .entry)) && (countsUp (now («val_ends» .entry)) && (countsUp (now («time_ends» .entry)) && (countsUp (now («diff_ends» .entry)) && every (λ (d : ℕ). not (eqb d 0)) (now (diffs .entry)))))) ⌝ }
+    ensures { λ r. ⌜ r ≡ (rises (now (keys .entry)) && (countsUp (now («val_ends» .entry)) && (countsUp (now («time_ends» .entry)) && (countsUp (now («diff_ends» .entry)) && standing (now (diffs .entry)))))) ⌝ }
 {
     let mut fell = 0;
     let mut last = 0;
@@ -439,17 +464,16 @@ fn layers_hold(words: &[u64], found: Contents) -> bool
     requires { ⌜ Placed found (now words) × Counted found ⌝ }
     ensures { λ r. ⌜ r ≡ wellFormed (now (words .entry)) ⌝ }
 {
+    let time_ends_at = found.time_ends_at;
+    let times_at = found.times_at;
     let diff_ends_at = found.diff_ends_at;
     let diffs_at = found.diffs_at;
     let size = found.size;
-    if !changes_hold(&words[diff_ends_at..diffs_at], &words[diffs_at..size]) {
-        return false;
-    }
-    let time_ends_at = found.time_ends_at;
-    let times_at = found.times_at;
-    if !layer_rises(
+    if !lower_holds(
         &words[time_ends_at..times_at],
         &words[times_at..diff_ends_at],
+        &words[diff_ends_at..diffs_at],
+        &words[diffs_at..size],
     ) {
         return false;
     }

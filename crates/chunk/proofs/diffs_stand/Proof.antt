@@ -9,7 +9,8 @@ use lib.ListN.{length, drop, drop-of-length-le}
 use denote.Ref.{now}
 use Rattle.chunk.specs.Entry.{every}
 use Rattle.chunk.proofs.Tests.{and-false, and-true}
-use Rattle.chunk.proofs.Rowing.{standing, stood}
+use Rattle.chunk.specs.Beside.{standing}
+use Rattle.chunk.proofs.Rowing.{stood}
 use Rattle.chunk.proofs.diffs_stand.Statement.{statement}
 use Rattle.chunk.proofs.diffs_stand.Tie as tie
 

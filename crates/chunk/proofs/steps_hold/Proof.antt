@@ -7,7 +7,7 @@ use borrow.Author.Needs.{needs}
 use lib.ListN.{length, drop}
 use denote.Ref.{now}
 use Rattle.chunk.specs.Words.{endsStep}
-use Rattle.chunk.proofs.Rowing.{standing}
+use Rattle.chunk.specs.Beside.{standing}
 use Rattle.chunk.proofs.Stepping.{to-last, changed-more, changed-end}
 use Rattle.chunk.proofs.steps_hold.Statement.{statement}
 use Rattle.chunk.proofs.steps_hold.Tie as tie

@@ -5,7 +5,7 @@ use mathlib.Core.Path.{_≡_}
 use mathlib.Core.List.{List}
 use lib.ListN.{length, take, drop}
 use lib.Dec.{eqb}
-use Rattle.chunk.specs.declared.Seen.{Seen}
+use Rattle.chunk.specs.declared.beside.Seen.{Seen}
 use Rattle.chunk.specs.Entry.{every}
 use Rattle.chunk.specs.Words.{endsStep}
 use Rattle.chunk.specs.Falls.{fallsOf}

@@ -6,12 +6,18 @@ ghost use Rattle.chunk.specs.Beside.{changesHold, Beside, LookFrom};
 ghost use Rattle.chunk.specs.Entry.{every};
 ghost use Rattle.chunk.specs.Words.{rises, endsRise, lists};
 ghost use lib.ListN.{length};
-use crate::Seen;
 use crate::ends_rise;
 use crate::fall_of;
 use crate::falls_at;
 use crate::part_end;
 use crate::steps;
+
+// What a look over times finds: how many of them are falls, whether the changes beside them hold, and how many diffs have ended.
+struct Seen {
+    fell: usize,
+    good: bool,
+    reach: u64,
+}
 
 // A look over a range of times that all have a diff: the ends count on, and no diff is 0.
 fn look_settled(times: &[u64], ends: &[u64], diffs: &[u64], low: usize, high: usize) -> Seen

@@ -45,13 +45,6 @@ pub struct Checked {
     pub contents: Contents,
 }
 
-// What a look over times finds: how many of them are falls, whether the changes beside them hold so far, and how many diffs end there.
-pub struct Seen {
-    pub fell: usize,
-    pub good: bool,
-    pub reach: u64,
-}
-
 // The most times that a chunk may have.
 const LIMIT: usize = 1048576;
 

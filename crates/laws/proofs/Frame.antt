@@ -7,12 +7,13 @@ use native.Mathlib.Omega.{arith}
 use lib.Dec.{leb, ltb, eqb}
 use lib.ListN.{length, take, drop, length-append, length-drop}
 use lib.Seq.{take-at, drop-at, take-add, drop-drop, length-take-le}
-use borrow.Author.Tests.{leb-true, le-leb, eqb-true, ne-eqb, ltb-true, lt-ltb}
+use borrow.Author.Tests.{leb-true, le-leb, eqb-true, ne-eqb, lt-ltb}
 use Rattle.chunk.specs.Entry.{every}
 use Rattle.chunk.specs.Words.{nk, nv, nt, nd, tableSize, size, tableFits, body, keyBody, valEndBody, valBody, timeEndBody, timeBody, diffEndBody, diffBody, lists, endsRise, endsStep, rises, limit, allOrNone, wellFormed}
 use Rattle.chunk.specs.Contents.{contentsOf}
 pub use Rattle.chunk.proofs.WellFormed.{Parts, parts, whole}
 use Rattle.chunk.proofs.Placed as placed
+use Rattle.chunk.proofs.Falling.{capped}
 use Rattle.laws.proofs.Tests.{and-left, and-right, and-both}
 use Rattle.laws.proofs.Cuts.{nonzero}
 use Rattle.laws.proofs.Layers.{Seven}
@@ -107,13 +108,6 @@ module _ (s : Seven) (c : Formed s) (rest : List ℕ) where
 
 -- ---- no list is without items, so the counts are all 0 or none is
 
-rise-count : (low : ℕ) (ends : List ℕ) (top : ℕ) → endsRise low ends top ≡ true → low + length ends ≤ top
-unfolding endsRise
-rise-count low [] top h = let e : low ≡ top = eqb-true _ _ h in omega arith
-rise-count low (e ∷ ends) top h =
-    let a : low < e = ltb-true _ _ (and-left _ _ h) in
-    omega (arith, rise-count e ends top (and-right (ltb low e) _ h))
-
 rise-none : (ends : List ℕ) (top : ℕ) → endsRise 0 ends top ≡ true → length ends ≡ 0 → top ≡ 0
 unfolding endsRise
 rise-none [] top h l = sym (eqb-true _ _ h)
@@ -129,8 +123,8 @@ module _ (s : Seven) (f : Formed s) where
   formed-counts : allOrNone (length (s .keyList)) (length (s .valList)) (length (s .timeList)) ≡ true
   formed-counts =
       some-counts (length (s .keyList)) (length (s .valList)) (length (s .timeList))
-      (omega (arith, rise-count 0 (s .valEndList) (length (s .valList)) (f .valEndsRise), f .valCount))
-      (omega (arith, rise-count 0 (s .timeEndList) (length (s .timeList)) (f .timeEndsRise), f .timeCount))
+      (omega (arith, capped 0 (length (s .valList)) (s .valEndList) (f .valEndsRise), f .valCount))
+      (omega (arith, capped 0 (length (s .timeList)) (s .timeEndList) (f .timeEndsRise), f .timeCount))
       (λ z. rise-none (s .valEndList) (length (s .valList)) (f .valEndsRise) (f .valCount ∙ z))
       (λ z. rise-none (s .timeEndList) (length (s .timeList)) (f .timeEndsRise) (f .timeCount ∙ z))
 

@@ -5,7 +5,7 @@ use borrow.Author.Needs.{needs}
 use lib.ListN.{length, getD}
 use denote.Ref.{now}
 use Rattle.reports.proofs.Moving.{reading}
-use Rattle.merge.proofs.Layering.{Lending, lending, keys-room, keys-done, vals-room, vals-done, vals-past, times-room, times-done, times-length}
+use Rattle.merge.proofs.Layering.{Lending, lending, keys-room, KeysDone, keys-done, vals-room, ValsDone, vals-done, vals-past, times-room, times-done, times-length}
 use Rattle.merge.proofs.survey_layers.Statement.{statement}
 use Rattle.merge.proofs.survey_layers.Tie as tie
 use Rattle.merge.proofs.survey_layers.Reads as reads
@@ -18,6 +18,20 @@ first t = lending _ _ (t .pre .first) (omega (arith, t .good .0))
 
 second : (t : tie.Start) → Lending (t .args .words1 .now) (t .args .found1)
 second t = lending _ _ (t .pre .second) (omega (arith, t .good .1 .1 .0))
+
+-- the keys' survey stands
+keys-at : (c : tie.After-survey-pair) → KeysDone _ _ _ _ _ (c .before .before .before .before .before .before .before .pre) (c .survey-pair .last .1 .1 .1 .1 .1 .1 .0) (c .survey-pair .result)
+keys-at c =
+    let y = c .before .before .before .before .before .before .before .pre in
+    keys-done _ _ _ _ _ y _ _ _ _ (reading _ _ (y .first) .key-words) (reading _ _ (y .second) .key-words) (c .survey-pair .ensures .0) (c .survey-pair .ensures .1)
+
+-- the values' survey stands
+vals-at : (c : tie.After-survey) → ValsDone _ _ _ _ _ (c .before .before .before .before .before .before .before .before .before .before .before .before .before .before .before .pre) _ _ (keys-at (c .before .before .before .before .before .before .before .before)) (c .survey .last .1 .1 .1 .1 .0) (c .survey .result)
+vals-at c =
+    let y = c .before .before .before .before .before .before .before .before .before .before .before .before .before .before .before .pre in
+    let r = reading _ _ (y .first) in
+    let q = reading _ _ (y .second) in
+    vals-done _ _ _ _ _ y _ _ (keys-at (c .before .before .before .before .before .before .before .before)) _ _ _ _ _ _ (r .val-end-words) (r .val-words) (q .val-end-words) (q .val-words) (c .survey .ensures .0) (c .survey .ensures .1)
 
 mul-survey-pair : tie.Need-mul-survey-pair
 mul-survey-pair c = first (c .before .before .before) .its-keys .bytes
@@ -103,8 +117,7 @@ survey-requires c κs =
     let y = c .before .before .before .before .before .before .before .before .before .before .before .before .before .before .pre in
     let r = reading _ _ (y .first) in
     let q = reading _ _ (y .second) in
-    let k = c .before .before .before .before .before .before .before .survey-pair .ensures in
-    let d = keys-done _ _ _ _ _ y _ _ _ _ (r .key-words) (q .key-words) (k .0) (k .1) in
+    let d = keys-at (c .before .before .before .before .before .before .before) in
     vals-room _ _ _ _ _ y _ _ d _ _ _ _ (r .val-end-words) (r .val-words) (q .val-end-words) (q .val-words)
 
 mul-survey-5 : tie.Need-mul-survey-5
@@ -158,12 +171,8 @@ part-survey-end-8 c = second (c .before .before .before .before .before .before 
 sub-survey-9 : tie.Need-sub-survey-9
 sub-survey-9 c =
     let y = c .before .before .before .before .before .before .before .before .before .before .before .before .before .before .before .before .before .before .before .before .before .before .pre in
-    let r = reading _ _ (y .first) in
-    let q = reading _ _ (y .second) in
-    let k = c .before .before .before .before .before .before .before .before .before .before .before .before .before .before .before .survey-pair .ensures in
-    let d = keys-done _ _ _ _ _ y _ _ _ _ (r .key-words) (q .key-words) (k .0) (k .1) in
-    let v = c .before .before .before .before .before .before .before .survey .ensures in
-    let g = vals-done _ _ _ _ _ y _ _ d _ _ _ _ _ _ (r .val-end-words) (r .val-words) (q .val-end-words) (q .val-words) (v .0) (v .1) in
+    let d = keys-at (c .before .before .before .before .before .before .before .before .before .before .before .before .before .before .before) in
+    let g = vals-at (c .before .before .before .before .before .before .before) in
     vals-past _ _ _ _ _ y _ _ d _ _ g
 
 survey-requires-2 : tie.Need-survey-requires-2
@@ -171,10 +180,8 @@ survey-requires-2 c κs =
     let y = c .before .before .before .before .before .before .before .before .before .before .before .before .before .before .before .before .before .before .before .before .before .before .pre in
     let r = reading _ _ (y .first) in
     let q = reading _ _ (y .second) in
-    let k = c .before .before .before .before .before .before .before .before .before .before .before .before .before .before .before .survey-pair .ensures in
-    let d = keys-done _ _ _ _ _ y _ _ _ _ (r .key-words) (q .key-words) (k .0) (k .1) in
-    let v = c .before .before .before .before .before .before .before .survey .ensures in
-    let g = vals-done _ _ _ _ _ y _ _ d _ _ _ _ _ _ (r .val-end-words) (r .val-words) (q .val-end-words) (q .val-words) (v .0) (v .1) in
+    let d = keys-at (c .before .before .before .before .before .before .before .before .before .before .before .before .before .before .before) in
+    let g = vals-at (c .before .before .before .before .before .before .before) in
     times-room _ _ _ _ _ y _ _ d _ _ g _ _ _ _ (r .time-end-words) (r .time-words) (q .time-end-words) (q .time-words)
 
 same-length : tie.Need-same-length
@@ -182,10 +189,8 @@ same-length c =
     let y = c .before .before .before .before .before .before .before .before .before .before .before .before .before .before .before .before .before .before .before .before .before .before .before .before .before .pre in
     let r = reading _ _ (y .first) in
     let q = reading _ _ (y .second) in
-    let k = c .before .before .before .before .before .before .before .before .before .before .before .before .before .before .before .before .before .before .survey-pair .ensures in
-    let d = keys-done _ _ _ _ _ y _ _ _ _ (r .key-words) (q .key-words) (k .0) (k .1) in
-    let v = c .before .before .before .before .before .before .before .before .before .before .survey .ensures in
-    let g = vals-done _ _ _ _ _ y _ _ d _ _ _ _ _ _ (r .val-end-words) (r .val-words) (q .val-end-words) (q .val-words) (v .0) (v .1) in
+    let d = keys-at (c .before .before .before .before .before .before .before .before .before .before .before .before .before .before .before .before .before .before) in
+    let g = vals-at (c .before .before .before .before .before .before .before .before .before .before) in
     let w = c .before .before .survey2 .ensures in
     times-length _ _ _ _ _ y _ _ d _ _ g _ _ _ _ _ _ (r .time-end-words) (r .time-words) (q .time-end-words) (q .time-words) (w .0) (w .1)
 
@@ -194,10 +199,8 @@ returns c =
     let y = c .before .before .before .before .before .before .before .before .before .before .before .before .before .before .before .before .before .before .before .before .before .before .before .before .before .pre in
     let r = reading _ _ (y .first) in
     let q = reading _ _ (y .second) in
-    let k = c .before .before .before .before .before .before .before .before .before .before .before .before .before .before .before .before .before .before .survey-pair .ensures in
-    let d = keys-done _ _ _ _ _ y _ _ _ _ (r .key-words) (q .key-words) (k .0) (k .1) in
-    let v = c .before .before .before .before .before .before .before .before .before .before .survey .ensures in
-    let g = vals-done _ _ _ _ _ y _ _ d _ _ _ _ _ _ (r .val-end-words) (r .val-words) (q .val-end-words) (q .val-words) (v .0) (v .1) in
+    let d = keys-at (c .before .before .before .before .before .before .before .before .before .before .before .before .before .before .before .before .before .before) in
+    let g = vals-at (c .before .before .before .before .before .before .before .before .before .before) in
     let w = c .before .before .survey2 .ensures in
     times-done _ _ _ _ _ y _ _ d _ _ g _ _ _ _ _ _ (r .time-end-words) (r .time-words) (q .time-end-words) (q .time-words) (w .0) (w .1)
 

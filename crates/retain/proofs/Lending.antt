@@ -24,4 +24,13 @@ pub record Lending (c : Contents) (w : List ℕ) : Type 0 where
   pub its-diffs : Lent w (c .«diffs_at») (c .size)
 
 pub lending : (c : Contents) (w : List ℕ) → Placed c w → Fits w64 (length w * 8) → Lending c w
-lending c w p h = omega (arith, h, p .keysAt, p .valEndsAt, p .valsAt, p .timeEndsAt, p .timesAt, p .diffEndsAt, p .diffsAt, p .sized, p .within)
+lending c w p h =
+    record {
+      its-keys = omega (arith, h, p .keysAt, p .valEndsAt, p .within);
+      its-val-ends = omega (arith, h, p .valEndsAt, p .valsAt, p .within);
+      its-vals = omega (arith, h, p .valsAt, p .timeEndsAt, p .within);
+      its-time-ends = omega (arith, h, p .timeEndsAt, p .timesAt, p .within);
+      its-times = omega (arith, h, p .timesAt, p .diffEndsAt, p .within);
+      its-diff-ends = omega (arith, h, p .diffEndsAt, p .diffsAt, p .within);
+      its-diffs = omega (arith, h, p .diffsAt, p .sized, p .within);
+    }

@@ -84,7 +84,7 @@ mul-out-3 c = let a = c .before .before .before .before .before .before .before 
 
 -- src/layers.rt:46:34
 shared-slice-read-out-2 : tie.Need-shared-slice-read-out-2 Inv-loop μ-loop
-shared-slice-read-out-2 c = let a = c .before .before .before .before .before .before .before .before .before .before .before .before in let l = c .before .before .before .before .before .loop in let t = c .before .before .before .before .loop-test .taken in let v = l .inv .1 .1 .1 .1 in let g = c .before .before .before .if1 .left in let h = leaving-within _ _ _ _ _ _ _ (l .i) v g in let d = leaving-diff _ _ _ _ _ _ _ (l .i) v g (a .pre .0 .1 .0) (a .pre .0 .0 .steps) (a .pre .0 .1 .1) (λ k q. and-left _ _ q) in let e = l .inv .1 .1 .1 .0 in omega arith
+shared-slice-read-out-2 c = let a = c .before .before .before .before .before .before .before .before .before .before .before .before in let l = c .before .before .before .before .before .loop in let t = c .before .before .before .before .loop-test .taken in let v = l .inv .1 .1 .1 .1 in let g = c .before .before .before .if1 .left in let h = leaving-within _ _ _ _ _ _ _ (l .i) v g in let d = leaving-diff _ _ _ _ _ _ _ (l .i) v g (a .pre .0 .1 .0) (a .pre .0 .0 .steps) (a .pre .0 .1 .1) (λ k q. and-left _ _ q) in let e = l .inv .1 .1 .1 .0 in omega (arith, d, e)
 
 -- src/layers.rt:46:13
 add-out-2 : tie.Need-add-out-2 Inv-loop μ-loop
@@ -116,7 +116,7 @@ sub-at c = let a = c .before .before .before .before .before .before .before .be
 
 -- src/layers.rt:48:15
 mul-at : tie.Need-mul-at Inv-loop μ-loop
-mul-at c = let a = c .before .before .before .before .before .before .before .before .before .before .before .before .before in let l = c .before .before .before .before .before .before .loop in let t = c .before .before .before .before .before .loop-test .taken in let v = l .inv .1 .1 .1 .1 in let g = c .before .before .before .before .if1 .left in let h = leaving-within _ _ _ _ _ _ _ (l .i) v g in let b = end-bit _ (l .i) _ (a .pre .0 .0 .steps) (omega (arith, h, a .pre .0 .1 .0)) (l .inv .1 .1 .1 .0) in let q = (λ j. b .1 j * c .keeps .ensures j) ∙ bit-and _ _ in let o = bit-one _ _ q in omega arith
+mul-at c = let a = c .before .before .before .before .before .before .before .before .before .before .before .before .before in let l = c .before .before .before .before .before .before .loop in let t = c .before .before .before .before .before .loop-test .taken in let v = l .inv .1 .1 .1 .1 in let g = c .before .before .before .before .if1 .left in let h = leaving-within _ _ _ _ _ _ _ (l .i) v g in let b = end-bit _ (l .i) _ (a .pre .0 .0 .steps) (omega (arith, h, a .pre .0 .1 .0)) (l .inv .1 .1 .1 .0) in let q = (λ j. b .1 j * c .keeps .ensures j) ∙ bit-and _ _ in let o = bit-one _ _ q in omega (arith, o, b .0)
 
 -- src/layers.rt:48:9
 add-at : tie.Need-add-at Inv-loop μ-loop
@@ -128,7 +128,7 @@ add-i c = let a = c .before .before .before .before .before .before .before .bef
 
 -- src/layers.rt:40:5
 loop-less : tie.Need-loop-less Inv-loop μ-loop
-loop-less c = search needs
+loop-less c = omega (arith, c .before .before .before .before .before .loop-test .taken)
 
 -- src/layers.rt:40:5
 loop-again : tie.Need-loop-again Inv-loop μ-loop

@@ -106,7 +106,7 @@ add-i c = let a = c .before .before .before .before .before .before .before .bef
 
 -- src/layers.rt:82:5
 loop-less : tie.Need-loop-less Inv-loop μ-loop
-loop-less c = search needs
+loop-less c = omega (arith, c .before .before .before .before .before .before .before .loop-test .taken)
 
 -- src/layers.rt:82:5
 loop-again : tie.Need-loop-again Inv-loop μ-loop

@@ -25,3 +25,4 @@ pub mod Spans
 pub mod Parting
 pub mod Sliced
 pub mod Weaving
+pub mod Lending

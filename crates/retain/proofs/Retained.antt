@@ -8,7 +8,7 @@ use lib.Dec.{ltb, eqb}
 use lib.ListN.{length, length-map, getD}
 use Rattle.chunk.specs.Entry.{Entry, every, rising, stands, keep}
 use Rattle.chunk.specs.Bodies.{keys, vals, times, diffs, valEnds, timeEnds, diffEnds, chunkOf}
-use Rattle.chunk.specs.Words.{wellFormed, settled, entries, keyBody, valEndBody, valBody, timeEndBody, timeBody, diffEndBody, diffBody, nk, nv, nt, nd, limit, tableSize, endsRise, endsStep, risesFrom, size}
+use Rattle.chunk.specs.Words.{wellFormed, settled, entries, keyBody, valEndBody, valBody, timeEndBody, timeBody, diffEndBody, diffBody, nk, nv, nt, nd, limit, tableSize, endsRise, endsStep, risesFrom, size, over}
 use Rattle.chunk.specs.declared.Contents.{Contents}
 use Rattle.chunk.specs.Contents.{startOf, tableOf, contentsOf, Placed}
 use Rattle.chunk.proofs.Placed.{placed, cut-keys, cut-val-ends, cut-vals, cut-time-ends, cut-times, cut-diff-ends, cut-diffs, length-keys, length-val-ends, length-vals, length-time-ends, length-times, length-diff-ends, length-diffs}
@@ -333,6 +333,12 @@ module _ (w : List ℕ) (f : wellFormed w ≡ true) (found : Contents) (p : Plac
         ≡ chunkOf (retainedOf k corners w)
     unfolding retainedOf
     cut-words = rw (cut-keys found w p, cut-val-ends found w p, cut-vals found w p, cut-time-ends found w p, cut-times found w p, cut-diff-ends found w p, cut-diffs found w p) (its-words w f (keepsAt k (timeBody w) corners))
+
+    -- what is written of the parts is the chunk of what stays
+    pub cut-over : (nk nv nt : ℕ) (out done : List ℕ) → ListsOf k corners w nk nv → nt ≡ length (retainedOf k corners w)
+        → done ≡ over (layersOut (timeKept k (timePart found w) corners (diffEndPart found w)) (keyPart found w) (valEndPart found w) (valPart found w) (timeEndPart found w) (timePart found w) (diffEndPart found w) (diffPart found w) nk nv nt) out
+        → done ≡ over (chunkOf (retainedOf k corners w)) out
+    cut-over nk nv nt out done l n e = e ∙ ap (λ (c : List ℕ). over c out) (cut-words nk nv nt l n)
 
     -- what is counted of the parts is that of the chunk
     pub cut-lists : (nk nv : ℕ) → ListsLeft (listKept (timeKept k (timePart found w) corners (diffEndPart found w)) (timeEndPart found w)) (valEndPart found w) nk nv → ListsOf k corners w nk nv

@@ -36,7 +36,7 @@ add-t22 : tie.Need-add-t22
 add-t22 c = search needs
 
 same-length : tie.Need-same-length
-same-length c = search needs
+same-length c = c .before .before .put .kept .0
 
 returns : tie.Need-returns
 returns c = stepped-both _ _ _ _ _ _ _ _ _ (c .before .before .before .before .if1 .taken) (c .before .before .put .ensures)
@@ -51,7 +51,7 @@ put-requires-2 : tie.Need-put-requires-2
 put-requires-2 c κs = search needs
 
 same-length-2 : tie.Need-same-length-2
-same-length-2 c = search needs
+same-length-2 c = c .before .before .put2 .kept .0
 
 returns-2 : tie.Need-returns-2
 returns-2 c = stepped-this _ _ _ _ _ _ _ _ _ _ (c .before .before .before .before .before .before .before .before .before .before .before .before .pre .1 .0) (c .before .before .before .before .before .before .before .before .before .before .before .before .pre .0 .rise0 .within) (c .before .before .before .before .before .if2 .taken) (c .before .before .before .before .gallop .ensures) (c .before .before .put2 .ensures)
@@ -66,7 +66,7 @@ put-requires-3 : tie.Need-put-requires-3
 put-requires-3 c κs = search needs
 
 same-length-3 : tie.Need-same-length-3
-same-length-3 c = search needs
+same-length-3 c = c .before .before .put3 .kept .0
 
 returns-3 : tie.Need-returns-3
 returns-3 c = stepped-that _ _ _ _ _ _ _ _ _ _ (c .before .before .before .before .before .before .before .before .before .before .before .before .pre .1 .1) (c .before .before .before .before .before .before .before .before .before .before .before .before .pre .0 .rise1 .within) (c .before .before .before .before .before .before .if1 .left) (c .before .before .before .before .before .if2 .left) (c .before .before .before .before .gallop2 .ensures) (c .before .before .put3 .ensures)

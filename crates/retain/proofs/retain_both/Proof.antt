@@ -34,11 +34,11 @@ write-table-requires c κs = search needs
 
 -- src/lib.rt:406:9
 same-length : tie.Need-same-length
-same-length c = search needs
+same-length c = c .before .before .before .before .before .before .copy .kept .1 .0
 
 -- src/lib.rt:406:9
 same-length-2 : tie.Need-same-length-2
-same-length-2 c = search needs
+same-length-2 c = c .before .before .write-table .kept .0
 
 -- src/lib.rt:406:9
 returns : tie.Need-returns
@@ -58,11 +58,11 @@ copy-requires-2 c κs = let a = c .before .before .before .before .before .befor
 
 -- src/lib.rt:411:9
 same-length-3 : tie.Need-same-length-3
-same-length-3 c = search needs
+same-length-3 c = c .before .before .before .before .before .before .before .write-table2 .kept .0
 
 -- src/lib.rt:411:9
 same-length-4 : tie.Need-same-length-4
-same-length-4 c = search needs
+same-length-4 c = c .before .before .copy2 .kept .1 .0
 
 -- src/lib.rt:411:9
 returns-2 : tie.Need-returns-2
@@ -74,7 +74,7 @@ both-of-requires c κs = search needs
 
 -- src/lib.rt:418:5
 retain-items-requires : tie.Need-retain-items-requires
-retain-items-requires c κs = search needs
+retain-items-requires c κs = let p = c .before .before .before .before .before .before .before .before .pre in ((p .0 .0, p .0 .1 .0), ((p .1 .0 .0, p .1 .0 .1 .0), (p .1 .1 .0, c .before .both-of .ensures .0)))
 
 -- src/lib.rt:435:9
 sub-retain-items : tie.Need-sub-retain-items
@@ -82,15 +82,15 @@ sub-retain-items c = search needs
 
 -- src/lib.rt:428:5
 retain-items-requires-2 : tie.Need-retain-items-requires-2
-retain-items-requires-2 c κs = search needs
+retain-items-requires-2 c κs = let p = c .before .before .before .before .before .before .before .before .before .before .before .before .pre in ((p .0 .0, p .0 .1 .0), ((p .1 .0 .0, p .1 .0 .1 .1), (p .1 .1 .1 .1, c .before .before .before .before .before .both-of .ensures .1)))
 
 -- src/lib.rt:388:1
 same-length-5 : tie.Need-same-length-5
-same-length-5 c = search needs
+same-length-5 c = c .before .before .before .before .before .before .retain-items .kept .1 .1 .1 .1 .1 .1 .1 .0
 
 -- src/lib.rt:388:1
 same-length-6 : tie.Need-same-length-6
-same-length-6 c = search needs
+same-length-6 c = c .before .before .retain-items2 .kept .1 .1 .1 .1 .1 .1 .1 .0
 
 -- src/lib.rt:388:1
 returns-3 : tie.Need-returns-3

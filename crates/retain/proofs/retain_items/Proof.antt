@@ -1,9 +1,7 @@
 -- `retain::retain_items` meets its contract: the parts cut out are the bodies, and what is written of them is the chunk of what stays.
-use Prim.Native.Nat.{ℕ}
-use mathlib.Core.Path.{_∙_, ap}
-use mathlib.Core.List.{List}
-use Rattle.chunk.specs.Words.{over}
-use Rattle.retain.proofs.Retained.{cut-bodies, cut-left, cut-words}
+use native.Mathlib.Omega.{arith}
+use Rattle.retain.proofs.Retained.{cut-bodies, cut-left, cut-over}
+use Rattle.retain.proofs.Lending.{Lending, lending}
 use borrow.Author.Needs.{needs}
 use Rattle.retain.proofs.retain_items.Statement.{statement}
 use Rattle.retain.proofs.retain_items.Tie as tie
@@ -11,117 +9,120 @@ use Rattle.retain.proofs.retain_items.Reads as reads
 use Rattle.retain.proofs.retain_items.Lts as lts
 use Rattle.retain.proofs.write_bodies.Reads as write-bodies-reads
 
+lent : (a : tie.Start) → Lending (a .args .found) (a .args .words .now)
+lent a = lending _ _ (a .pre .0 .1) (omega (arith, a .good .0))
+
 -- src/lib.rt:137:9
 mul-write-bodies : tie.Need-mul-write-bodies
-mul-write-bodies c = search needs
+mul-write-bodies c = lent (c .before .before .before) .its-keys .bytes
 
 -- src/lib.rt:137:9
 sub-write-bodies : tie.Need-sub-write-bodies
-sub-write-bodies c = search needs
+sub-write-bodies c = lent (c .before .before .before) .its-keys .ordered
 
 -- src/lib.rt:137:9
 part-write-bodies-start : tie.Need-part-write-bodies-start
-part-write-bodies-start c = search needs
+part-write-bodies-start c = lent (c .before .before .before) .its-keys .ordered
 
 -- src/lib.rt:137:9
 part-write-bodies-end : tie.Need-part-write-bodies-end
-part-write-bodies-end c = search needs
+part-write-bodies-end c = lent (c .before .before .before) .its-keys .within
 
 -- src/lib.rt:138:9
 mul-write-bodies-2 : tie.Need-mul-write-bodies-2
-mul-write-bodies-2 c = search needs
+mul-write-bodies-2 c = lent (c .before .before .before .before) .its-val-ends .bytes
 
 -- src/lib.rt:138:9
 sub-write-bodies-2 : tie.Need-sub-write-bodies-2
-sub-write-bodies-2 c = search needs
+sub-write-bodies-2 c = lent (c .before .before .before .before) .its-val-ends .ordered
 
 -- src/lib.rt:138:9
 part-write-bodies-start-2 : tie.Need-part-write-bodies-start-2
-part-write-bodies-start-2 c = search needs
+part-write-bodies-start-2 c = lent (c .before .before .before .before) .its-val-ends .ordered
 
 -- src/lib.rt:138:9
 part-write-bodies-end-2 : tie.Need-part-write-bodies-end-2
-part-write-bodies-end-2 c = search needs
+part-write-bodies-end-2 c = lent (c .before .before .before .before) .its-val-ends .within
 
 -- src/lib.rt:139:9
 mul-write-bodies-3 : tie.Need-mul-write-bodies-3
-mul-write-bodies-3 c = search needs
+mul-write-bodies-3 c = lent (c .before .before .before .before .before) .its-vals .bytes
 
 -- src/lib.rt:139:9
 sub-write-bodies-3 : tie.Need-sub-write-bodies-3
-sub-write-bodies-3 c = search needs
+sub-write-bodies-3 c = lent (c .before .before .before .before .before) .its-vals .ordered
 
 -- src/lib.rt:139:9
 part-write-bodies-start-3 : tie.Need-part-write-bodies-start-3
-part-write-bodies-start-3 c = search needs
+part-write-bodies-start-3 c = lent (c .before .before .before .before .before) .its-vals .ordered
 
 -- src/lib.rt:139:9
 part-write-bodies-end-3 : tie.Need-part-write-bodies-end-3
-part-write-bodies-end-3 c = search needs
+part-write-bodies-end-3 c = lent (c .before .before .before .before .before) .its-vals .within
 
 -- src/lib.rt:140:9
 mul-write-bodies-4 : tie.Need-mul-write-bodies-4
-mul-write-bodies-4 c = search needs
+mul-write-bodies-4 c = lent (c .before .before .before .before .before .before) .its-time-ends .bytes
 
 -- src/lib.rt:140:9
 sub-write-bodies-4 : tie.Need-sub-write-bodies-4
-sub-write-bodies-4 c = search needs
+sub-write-bodies-4 c = lent (c .before .before .before .before .before .before) .its-time-ends .ordered
 
 -- src/lib.rt:140:9
 part-write-bodies-start-4 : tie.Need-part-write-bodies-start-4
-part-write-bodies-start-4 c = search needs
+part-write-bodies-start-4 c = lent (c .before .before .before .before .before .before) .its-time-ends .ordered
 
 -- src/lib.rt:140:9
 part-write-bodies-end-4 : tie.Need-part-write-bodies-end-4
-part-write-bodies-end-4 c = search needs
+part-write-bodies-end-4 c = lent (c .before .before .before .before .before .before) .its-time-ends .within
 
 -- src/lib.rt:141:9
 mul-write-bodies-5 : tie.Need-mul-write-bodies-5
-mul-write-bodies-5 c = search needs
+mul-write-bodies-5 c = lent (c .before .before .before .before .before .before .before) .its-times .bytes
 
 -- src/lib.rt:141:9
 sub-write-bodies-5 : tie.Need-sub-write-bodies-5
-sub-write-bodies-5 c = search needs
+sub-write-bodies-5 c = lent (c .before .before .before .before .before .before .before) .its-times .ordered
 
 -- src/lib.rt:141:9
 part-write-bodies-start-5 : tie.Need-part-write-bodies-start-5
-part-write-bodies-start-5 c = search needs
+part-write-bodies-start-5 c = lent (c .before .before .before .before .before .before .before) .its-times .ordered
 
 -- src/lib.rt:141:9
 part-write-bodies-end-5 : tie.Need-part-write-bodies-end-5
-part-write-bodies-end-5 c = search needs
+part-write-bodies-end-5 c = lent (c .before .before .before .before .before .before .before) .its-times .within
 
 -- src/lib.rt:142:9
 mul-write-bodies-6 : tie.Need-mul-write-bodies-6
-mul-write-bodies-6 c = search needs
+mul-write-bodies-6 c = lent (c .before .before .before .before .before .before .before .before) .its-diff-ends .bytes
 
 -- src/lib.rt:142:9
 sub-write-bodies-6 : tie.Need-sub-write-bodies-6
-sub-write-bodies-6 c = search needs
+sub-write-bodies-6 c = lent (c .before .before .before .before .before .before .before .before) .its-diff-ends .ordered
 
 -- src/lib.rt:142:9
 part-write-bodies-start-6 : tie.Need-part-write-bodies-start-6
-part-write-bodies-start-6 c = search needs
+part-write-bodies-start-6 c = lent (c .before .before .before .before .before .before .before .before) .its-diff-ends .ordered
 
 -- src/lib.rt:142:9
 part-write-bodies-end-6 : tie.Need-part-write-bodies-end-6
-part-write-bodies-end-6 c = search needs
+part-write-bodies-end-6 c = lent (c .before .before .before .before .before .before .before .before) .its-diff-ends .within
 
 -- src/lib.rt:143:9
 mul-write-bodies-7 : tie.Need-mul-write-bodies-7
-mul-write-bodies-7 c = search needs
+mul-write-bodies-7 c = lent (c .before .before .before .before .before .before .before .before .before) .its-diffs .bytes
 
 -- src/lib.rt:143:9
 sub-write-bodies-7 : tie.Need-sub-write-bodies-7
-sub-write-bodies-7 c = search needs
+sub-write-bodies-7 c = lent (c .before .before .before .before .before .before .before .before .before) .its-diffs .ordered
 
 -- src/lib.rt:143:9
 part-write-bodies-start-7 : tie.Need-part-write-bodies-start-7
-part-write-bodies-start-7 c = search needs
+part-write-bodies-start-7 c = lent (c .before .before .before .before .before .before .before .before .before) .its-diffs .ordered
 
 -- src/lib.rt:143:9
 part-write-bodies-end-7 : tie.Need-part-write-bodies-end-7
-part-write-bodies-end-7 c = search needs
+part-write-bodies-end-7 c = lent (c .before .before .before .before .before .before .before .before .before) .its-diffs .within
 
 -- src/lib.rt:134:5
 write-bodies-requires : tie.Need-write-bodies-requires
@@ -129,11 +130,13 @@ write-bodies-requires c κs = let a = c .before .before .before .before .before 
 
 -- src/lib.rt:111:1
 same-length : tie.Need-same-length
-same-length c = search needs
+same-length c = c .before .before .write-bodies .kept .1 .1 .1 .1 .1 .1 .1 .1 .1 .1 .1 .1 .0
 
 -- src/lib.rt:111:1
 returns : tie.Need-returns
-returns c = let a = c .before .before .before .before .before .before .before .before .before .before .before .before .before .before in c .before .before .write-bodies .ensures ∙ ap (λ (l : List ℕ). over l (a .args .out .now)) (cut-words (a .args .words .now) (a .pre .0 .0) (a .args .found) (a .pre .0 .1) (a .args .keep) (a .args .corners .now) _ _ _ (a .pre .1 .1 .1) (a .pre .1 .1 .0))
+returns c =
+    let a = c .before .before .before .before .before .before .before .before .before .before .before .before .before .before in
+    cut-over (a .args .words .now) (a .pre .0 .0) (a .args .found) (a .pre .0 .1) (a .args .keep) (a .args .corners .now) (a .args .nk) (a .args .nv) (a .args .nt) (a .args .out .now) _ (a .pre .1 .1 .1) (a .pre .1 .1 .0) (c .before .before .write-bodies .ensures)
 
 pub retain-items-spec : {M : Type 1} → statement M
 retain-items-spec =

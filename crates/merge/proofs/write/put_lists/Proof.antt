@@ -14,7 +14,7 @@ sub-last c = search needs
 
 -- src/write.rt:162:5
 put-ends-requires : tie.Need-put-ends-requires
-put-ends-requires c κs = search needs
+put-ends-requires c κs = let t = c .before .before .before in (record { ordered = t .pre .0 .ordered; within = t .pre .0 .within; fits = omega (arith, t .pre .0 .fits) }, t .pre .1 .1)
 
 -- src/write.rt:163:15
 sub-out : tie.Need-sub-out

@@ -14,11 +14,11 @@ write-ends-requires c κs = search needs
 
 -- src/write.rt:378:5
 write-items-requires : tie.Need-write-items-requires
-write-items-requires c κs = search needs
+write-items-requires c κs = rw (c .before .before .before .write-ends .kept .1 .1 .1 .1 .1 .1 .1 .0) (c .before .before .before .before .before .before .before .before .before .before .before .pre .1)
 
 -- src/write.rt:359:1
 same-length : tie.Need-same-length
-same-length c = search needs
+same-length c = c .before .before .write-items .kept .1 .1 .1 .1 .1 .0 ∙ c .before .before .before .before .before .before .write-ends .kept .1 .1 .1 .1 .1 .1 .1 .0
 
 -- src/write.rt:359:1
 returns : tie.Need-returns

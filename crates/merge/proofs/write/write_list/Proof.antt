@@ -78,11 +78,11 @@ add-result : tie.Need-add-result
 add-result c =
     let t = c .before .before .before .before .before .before .before .before .before .before .before .before .before .before in
     let v = t .args in
-    let m = this-lists (v .ends0 .now) (v .ends1 .now) (v .scratch .now) (v .p) (v .q) (v .base) (v .next) (v .at) _ (t .pre) (c .before .before .before .before .if1 .taken) in omega (arith, m .0 .fits)
+    let m = this-lists (v .ends0 .now) (v .ends1 .now) (v .scratch .now) (v .p) (v .q) (v .base) (v .next) (v .at) _ (t .pre) (c .before .before .before .before .if1 .taken) in omega (arith, m .0 .ordered, m .0 .fits, m .1 .0, t .good .1 .1 .1 .1 .1 .1 .1 .0)
 
 -- src/write.rt:188:9
 same-length : tie.Need-same-length
-same-length c = search needs
+same-length c = c .before .before .put-lists .kept .0
 
 -- src/write.rt:188:9
 returns : tie.Need-returns
@@ -110,11 +110,11 @@ add-result-2 : tie.Need-add-result-2
 add-result-2 c =
     let t = c .before .before .before .before .before .before .before .before .before .before .before .before .before .before .before in
     let v = t .args in
-    let m = that-lists (v .ends0 .now) (v .ends1 .now) (v .scratch .now) (v .p) (v .q) (v .base) (v .next) (v .at) _ (t .pre) (c .before .before .before .before .if2 .taken) in omega (arith, m .0 .fits)
+    let m = that-lists (v .ends0 .now) (v .ends1 .now) (v .scratch .now) (v .p) (v .q) (v .base) (v .next) (v .at) _ (t .pre) (c .before .before .before .before .if2 .taken) in omega (arith, m .0 .ordered, m .0 .fits, m .1 .0, t .good .1 .1 .1 .1 .1 .1 .1 .0)
 
 -- src/write.rt:192:9
 same-length-2 : tie.Need-same-length-2
-same-length-2 c = search needs
+same-length-2 c = c .before .before .put-lists2 .kept .0
 
 -- src/write.rt:192:9
 returns-2 : tie.Need-returns-2

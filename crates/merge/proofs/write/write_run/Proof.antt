@@ -59,11 +59,11 @@ add-result : tie.Need-add-result
 add-result c =
     let t = c .before .before .before .before .before .before .before .before .before .before .before .before in
     let v = t .args in
-    let m = this-room (v .first .now) (v .second .now) (v .scratch .now) (v .p) (v .at) _ (t .pre) (c .before .before .before .before .if1 .taken) in omega (arith, m .fits)
+    let m = this-room (v .first .now) (v .second .now) (v .scratch .now) (v .p) (v .at) _ (t .pre) (c .before .before .before .before .if1 .taken) in omega (arith, m .fits, t .good .1 .1 .1 .1 .0)
 
 -- src/write.rt:42:9
 same-length : tie.Need-same-length
-same-length c = search needs
+same-length c = c .before .before .put-items .kept .0
 
 -- src/write.rt:42:9
 returns : tie.Need-returns
@@ -91,11 +91,11 @@ add-result-2 : tie.Need-add-result-2
 add-result-2 c =
     let t = c .before .before .before .before .before .before .before .before .before .before .before .before .before in
     let v = t .args in
-    let m = that-room (v .first .now) (v .second .now) (v .scratch .now) (v .p) (v .at) _ (t .pre) (c .before .before .before .before .if2 .taken) in omega (arith, m .fits)
+    let m = that-room (v .first .now) (v .second .now) (v .scratch .now) (v .p) (v .at) _ (t .pre) (c .before .before .before .before .if2 .taken) in omega (arith, m .fits, t .good .1 .1 .1 .1 .0)
 
 -- src/write.rt:46:9
 same-length-2 : tie.Need-same-length-2
-same-length-2 c = search needs
+same-length-2 c = c .before .before .put-items2 .kept .0
 
 -- src/write.rt:46:9
 returns-2 : tie.Need-returns-2
@@ -109,7 +109,7 @@ add-put-items : tie.Need-add-put-items
 add-put-items c =
     let t = c .before .before .before .before .before .before .before .before .before .before in
     let v = t .args in
-    let m = both-room (v .first .now) (v .second .now) (v .scratch .now) (v .p) (v .at) _ (t .pre) (c .before .before .if1 .left) (c .before .if2 .left) in omega (arith, m .within)
+    let m = both-room (v .first .now) (v .second .now) (v .scratch .now) (v .p) (v .at) _ (t .pre) (c .before .before .if1 .left) (c .before .if2 .left) in omega (arith, m .within, t .good .0)
 
 -- src/write.rt:48:5
 put-items-requires-3 : tie.Need-put-items-requires-3
@@ -124,7 +124,7 @@ add-result-3 c = search needs
 
 -- src/write.rt:32:1
 same-length-3 : tie.Need-same-length-3
-same-length-3 c = search needs
+same-length-3 c = c .before .before .put-items3 .kept .0
 
 -- src/write.rt:32:1
 returns-3 : tie.Need-returns-3

@@ -1,8 +1,10 @@
 -- `retain::layers::write_layers` meets its contract: what is written of the keys, the values and the times, with what is left to write, is the whole.
-use Prim.Native.Nat.{_-_, _≤_}
+use Prim.Native.Nat.{_+_, _-_, _*_, _≤_}
 use mathlib.Core.Path.{refl, sym, _∙_}
 use native.Mathlib.Omega.{arith}
 use lib.ListN.{length, length-set}
+use mir.Syntax.{w64}
+use mir.Val.{Fits}
 use Rattle.retain.specs.Layers.{Bodies}
 use Rattle.retain.specs.Keep.{timeKept}
 use Rattle.retain.proofs.Leaving.{ready}
@@ -24,6 +26,10 @@ Inv-loop keep corners keys val-ends vals time-ends times diff-ends diffs nk nv n
 abbrev μ-loop : tie.MeasureT-loop
 μ-loop keep corners keys val-ends vals time-ends times diff-ends diffs nk nv nt out₀ start₀ time₀ written₀ total₀ at₀ i₀ out start time written total at i = length keys - i
 
+-- all that is written fits in memory
+room : (a : tie.Start Inv-loop μ-loop) → Fits w64 (((a .args .nk + a .args .nk) + ((a .args .nv + a .args .nv) + (a .args .nt + (a .args .nt + a .args .nt)))) * 8)
+room a = omega (arith, a .pre .1 .1 .1, a .good .1 .1 .1 .1 .1 .1 .1 .1 .1 .1 .1 .1 .0)
+
 loop-holds : tie.Need-loop-holds Inv-loop μ-loop
 loop-holds c = let a = c .before .before .before .before .before .before .before .before .before in let b = a .pre .1 .0 in (b, (omega arith, layers-start _ _ _ _ _ _ _ _ b _ _ _ _ (a .pre .1 .1 .0) (a .pre .1 .1 .1)))
 
@@ -34,7 +40,7 @@ shared-slice-read-end : tie.Need-shared-slice-read-end Inv-loop μ-loop
 shared-slice-read-end c = let a = c .before .before .before .before .before .before .before .before .before .before .before .before in let l = c .before .before .loop in let b = l .inv .0 in let w = l .inv .1 .1 in let z = w .size in let t = c .before .loop-test .taken in let h = layers-within _ _ _ _ _ _ _ _ b _ _ _ _ _ _ _ _ _ (l .i) w t in let o = b .overVals .rows in omega arith
 
 add-write-values : tie.Need-add-write-values Inv-loop μ-loop
-add-write-values c = let a = c .before .before .before .before .before .before .before .before .before .before .before .before in let l = c .before .before .loop in let b = l .inv .0 in let w = l .inv .1 .1 in let z = w .size in let t = c .before .loop-test .taken in let h = layers-within _ _ _ _ _ _ _ _ b _ _ _ _ _ _ _ _ _ (l .i) w t in omega (arith, a .good)
+add-write-values c = omega (arith, room (c .before .before .before .before .before .before .before .before .before .before .before .before))
 
 write-values-requires : tie.Need-write-values-requires Inv-loop μ-loop
 write-values-requires c κs = let a = c .before .before .before .before .before .before .before .before .before .before .before .before .before in let l = c .before .before .before .loop in let b = l .inv .0 in let w = l .inv .1 .1 in let z = w .size in let t = c .before .before .loop-test .taken in let h = layers-within _ _ _ _ _ _ _ _ b _ _ _ _ _ _ _ _ _ (l .i) w t in ((ready _ _ _ _ _ _ _ _ b (a .pre .0), (b .timeRows, b .diffsWithin)), (b .overTimes, (next-values _ _ _ _ _ _ _ _ b _ _ _ _ _ _ _ _ _ (l .i) w t, (sym z, w .woven))))
@@ -46,19 +52,19 @@ shared-slice-read-out : tie.Need-shared-slice-read-out Inv-loop μ-loop
 shared-slice-read-out c = let a = c .before .before .before .before .before .before .before .before .before .before .before .before .before .before .before .before .before in let l = c .before .before .before .before .before .before .before .loop in let b = l .inv .0 in let w = l .inv .1 .1 in let z = w .size in let t = c .before .before .before .before .before .before .loop-test .taken in let h = layers-within _ _ _ _ _ _ _ _ b _ _ _ _ _ _ _ _ _ (l .i) w t in h
 
 mul-out-2 : tie.Need-mul-out-2 Inv-loop μ-loop
-mul-out-2 c = let a = c .before .before .before .before .before .before .before .before .before .before .before .before .before .before .before .before .before in let l = c .before .before .before .before .before .before .before .loop in let b = l .inv .0 in let w = l .inv .1 .1 in let z = w .size in let t = c .before .before .before .before .before .before .loop-test .taken in let h = layers-within _ _ _ _ _ _ _ _ b _ _ _ _ _ _ _ _ _ (l .i) w t in omega (arith, a .good)
+mul-out-2 c = omega (arith, c .before .before .before .before .before .before .loop-test .taken, room (c .before .before .before .before .before .before .before .before .before .before .before .before .before .before .before .before .before))
 
 slice-write-out : tie.Need-slice-write-out Inv-loop μ-loop
-slice-write-out c = let a = c .before .before .before .before .before .before .before .before .before .before .before .before .before .before .before .before .before in let l = c .before .before .before .before .before .before .before .loop in let b = l .inv .0 in let w = l .inv .1 .1 in let z = w .size in let t = c .before .before .before .before .before .before .loop-test .taken in let h = layers-within _ _ _ _ _ _ _ _ b _ _ _ _ _ _ _ _ _ (l .i) w t in let r = c .before .before .before .write-values in let n = r .kept .1 .1 .1 .1 .1 .1 .1 .1 .1 .1 .1 .1 .1 .0 in omega (arith, n)
+slice-write-out c = omega (arith, c .before .before .before .before .before .before .loop-test .taken, c .before .before .before .before .before .before .before .loop .inv .1 .1 .size, c .before .before .before .write-values .kept .1 .1 .1 .1 .1 .1 .1 .1 .1 .1 .1 .1 .1 .0)
 
 add-out : tie.Need-add-out Inv-loop μ-loop
-add-out c = let a = c .before .before .before .before .before .before .before .before .before .before .before .before .before .before .before .before .before in let l = c .before .before .before .before .before .before .before .loop in let b = l .inv .0 in let w = l .inv .1 .1 in let z = w .size in let t = c .before .before .before .before .before .before .loop-test .taken in let h = layers-within _ _ _ _ _ _ _ _ b _ _ _ _ _ _ _ _ _ (l .i) w t in omega (arith, a .good)
+add-out c = omega (arith, c .before .before .before .before .before .before .loop-test .taken, room (c .before .before .before .before .before .before .before .before .before .before .before .before .before .before .before .before .before))
 
 mul-out-3 : tie.Need-mul-out-3 Inv-loop μ-loop
-mul-out-3 c = let a = c .before .before .before .before .before .before .before .before .before .before .before .before .before .before .before .before .before in let l = c .before .before .before .before .before .before .before .loop in let b = l .inv .0 in let w = l .inv .1 .1 in let z = w .size in let t = c .before .before .before .before .before .before .loop-test .taken in let h = layers-within _ _ _ _ _ _ _ _ b _ _ _ _ _ _ _ _ _ (l .i) w t in omega (arith, a .good)
+mul-out-3 c = omega (arith, c .before .before .before .before .before .before .loop-test .taken, room (c .before .before .before .before .before .before .before .before .before .before .before .before .before .before .before .before .before))
 
 slice-write-out-2 : tie.Need-slice-write-out-2 Inv-loop μ-loop
-slice-write-out-2 c = let a = c .before .before .before .before .before .before .before .before .before .before .before .before .before .before .before .before .before in let l = c .before .before .before .before .before .before .before .loop in let b = l .inv .0 in let w = l .inv .1 .1 in let z = w .size in let t = c .before .before .before .before .before .before .loop-test .taken in let h = layers-within _ _ _ _ _ _ _ _ b _ _ _ _ _ _ _ _ _ (l .i) w t in let r = c .before .before .before .write-values in let n = r .kept .1 .1 .1 .1 .1 .1 .1 .1 .1 .1 .1 .1 .1 .0 in simp length-set (omega (arith, n))
+slice-write-out-2 c = simp length-set (omega (arith, c .before .before .before .before .before .before .loop-test .taken, c .before .before .before .before .before .before .before .loop .inv .1 .1 .size, c .before .before .before .write-values .kept .1 .1 .1 .1 .1 .1 .1 .1 .1 .1 .1 .1 .1 .0))
 
 bit-of-requires : tie.Need-bit-of-requires Inv-loop μ-loop
 bit-of-requires c κs = search needs
@@ -70,22 +76,22 @@ add-i : tie.Need-add-i Inv-loop μ-loop
 add-i c = let a = c .before .before .before .before .before .before .before .before .before .before .before .before .before .before .before .before .before .before in let l = c .before .before .before .before .before .before .before .before .loop in let b = l .inv .0 in let w = l .inv .1 .1 in let z = w .size in let t = c .before .before .before .before .before .before .before .loop-test .taken in let h = layers-within _ _ _ _ _ _ _ _ b _ _ _ _ _ _ _ _ _ (l .i) w t in omega (arith, a .good)
 
 loop-less : tie.Need-loop-less Inv-loop μ-loop
-loop-less c = let a = c .before .before .before .before .before .before .before .before .before .before .before .before .before .before .before .before .before .before in let l = c .before .before .before .before .before .before .before .before .loop in let b = l .inv .0 in let w = l .inv .1 .1 in let z = w .size in let t = c .before .before .before .before .before .before .before .loop-test .taken in let h = layers-within _ _ _ _ _ _ _ _ b _ _ _ _ _ _ _ _ _ (l .i) w t in omega arith
+loop-less c = let l = c .before .before .before .before .before .before .before .before .loop in omega (arith, layers-within _ _ _ _ _ _ _ _ (l .inv .0) _ _ _ _ _ _ _ _ _ (l .i) (l .inv .1 .1) (c .before .before .before .before .before .before .before .loop-test .taken))
 
 loop-again : tie.Need-loop-again Inv-loop μ-loop
 loop-again c = let a = c .before .before .before .before .before .before .before .before .before .before .before .before .before .before .before .before .before .before in let l = c .before .before .before .before .before .before .before .before .loop in let b = l .inv .0 in let w = l .inv .1 .1 in let z = w .size in let t = c .before .before .before .before .before .before .before .loop-test .taken in let h = layers-within _ _ _ _ _ _ _ _ b _ _ _ _ _ _ _ _ _ (l .i) w t in let r = c .before .before .before .before .write-values in let n = r .kept .1 .1 .1 .1 .1 .1 .1 .1 .1 .1 .1 .1 .1 .0 in (b, (omega arith, layers-next _ _ _ _ _ _ _ _ b _ _ _ (l .out) _ _ _ _ _ _ (l .at) (l .i) _ _ _ _ w t n (r .ensures .0) (r .ensures .1) (c .bit-of .ensures) refl))
 
 add-count-up : tie.Need-add-count-up Inv-loop μ-loop
-add-count-up c = let a = c .before .before .before .before .before .before .before .before .before .before .before .before in let l = c .before .before .loop in let b = l .inv .0 in let w = l .inv .1 .1 in let z = w .size in omega (arith, a .good)
+add-count-up c = omega (arith, room (c .before .before .before .before .before .before .before .before .before .before .before .before))
 
 add-count-up-2 : tie.Need-add-count-up-2 Inv-loop μ-loop
-add-count-up-2 c = let a = c .before .before .before .before .before .before .before .before .before .before .before .before in let l = c .before .before .loop in let b = l .inv .0 in let w = l .inv .1 .1 in let z = w .size in omega (arith, a .good)
+add-count-up-2 c = omega (arith, room (c .before .before .before .before .before .before .before .before .before .before .before .before))
 
 add-count-up-3 : tie.Need-add-count-up-3 Inv-loop μ-loop
-add-count-up-3 c = let a = c .before .before .before .before .before .before .before .before .before .before .before .before in let l = c .before .before .loop in let b = l .inv .0 in let w = l .inv .1 .1 in let z = w .size in omega (arith, a .good)
+add-count-up-3 c = omega (arith, room (c .before .before .before .before .before .before .before .before .before .before .before .before))
 
 add-count-up-4 : tie.Need-add-count-up-4 Inv-loop μ-loop
-add-count-up-4 c = let a = c .before .before .before .before .before .before .before .before .before .before .before .before in let l = c .before .before .loop in let b = l .inv .0 in let w = l .inv .1 .1 in let z = w .size in omega (arith, a .good)
+add-count-up-4 c = omega (arith, room (c .before .before .before .before .before .before .before .before .before .before .before .before))
 
 count-up-requires : tie.Need-count-up-requires Inv-loop μ-loop
 count-up-requires c κs = let a = c .before .before .before .before .before .before .before .before .before .before .before .before in let l = c .before .before .loop in let b = l .inv .0 in let w = l .inv .1 .1 in let z = w .size in omega arith

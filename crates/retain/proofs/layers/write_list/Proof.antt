@@ -3,6 +3,8 @@ use Prim.Native.Nat.{_+_, _-_, _*_, _≤_}
 use mathlib.Core.Path.{_≡_, refl, sym, _∙_, ap}
 use native.Mathlib.Omega.{arith}
 use lib.ListN.{length, take, drop, length-set}
+use mir.Syntax.{w64}
+use mir.Val.{Fits}
 use Rattle.chunk.specs.Contents.{startOf}
 use Rattle.retain.specs.Keep.{timeKept}
 use Rattle.retain.specs.Onward.{Leaving}
@@ -27,6 +29,10 @@ Inv-loop keep times corners diff-ends diffs from to done n base out₀ lower₀ 
 
 abbrev μ-loop : tie.MeasureT-loop
 μ-loop keep times corners diff-ends diffs from to done n base out₀ lower₀ at₀ i₀ out lower at i = to - i
+
+-- all that is written fits in memory
+room : (a : tie.Start Inv-loop μ-loop) → Fits w64 ((a .args .base + (a .args .n + (a .args .n + a .args .n))) * 8)
+room a = omega (arith, a .pre .1 .1 .0, a .good .1 .1 .1 .1 .1 .1 .1 .1 .1 .1 .0)
 
 -- src/layers.rt:36:9
 child-range-requires : tie.Need-child-range-requires Inv-loop μ-loop
@@ -62,15 +68,15 @@ shared-slice-read-out c = let a = c .before .before .before .before .before .bef
 
 -- src/layers.rt:45:13
 add-out : tie.Need-add-out Inv-loop μ-loop
-add-out c = let a = c .before .before .before .before .before .before .before .before .before .before .before in let l = c .before .before .before .before .loop in let t = c .before .before .before .loop-test .taken in let v = l .inv .1 .1 .1 .1 in let g = c .before .before .if1 .left in omega (arith, a .good, l .inv .1 .0, g)
+add-out c = omega (arith, c .before .before .if1 .left, room (c .before .before .before .before .before .before .before .before .before .before .before))
 
 -- src/layers.rt:45:9
 mul-out-2 : tie.Need-mul-out-2 Inv-loop μ-loop
-mul-out-2 c = let a = c .before .before .before .before .before .before .before .before .before .before .before in let l = c .before .before .before .before .loop in let t = c .before .before .before .loop-test .taken in let v = l .inv .1 .1 .1 .1 in let g = c .before .before .if1 .left in omega (arith, a .good, l .inv .1 .0, g)
+mul-out-2 c = omega (arith, c .before .before .if1 .left, room (c .before .before .before .before .before .before .before .before .before .before .before))
 
 -- src/layers.rt:45:9
 slice-write-out : tie.Need-slice-write-out Inv-loop μ-loop
-slice-write-out c = let a = c .before .before .before .before .before .before .before .before .before .before .before in let l = c .before .before .before .before .loop in let t = c .before .before .before .loop-test .taken in let v = l .inv .1 .1 .1 .1 in let g = c .before .before .if1 .left in omega (arith, l .inv .1 .0, g)
+slice-write-out c = omega (arith, c .before .before .if1 .left, c .before .before .before .before .loop .inv .1 .0)
 
 -- src/layers.rt:46:34
 mul-out-3 : tie.Need-mul-out-3 Inv-loop μ-loop
@@ -78,27 +84,27 @@ mul-out-3 c = let a = c .before .before .before .before .before .before .before 
 
 -- src/layers.rt:46:34
 shared-slice-read-out-2 : tie.Need-shared-slice-read-out-2 Inv-loop μ-loop
-shared-slice-read-out-2 c = let a = c .before .before .before .before .before .before .before .before .before .before .before .before in let l = c .before .before .before .before .before .loop in let t = c .before .before .before .before .loop-test .taken in let v = l .inv .1 .1 .1 .1 in let g = c .before .before .before .if1 .left in let h = leaving-within _ _ _ _ _ _ _ (l .i) v g in let d = leaving-diff _ _ _ _ _ _ _ (l .i) v g (a .pre .0 .1 .0) (a .pre .0 .0 .steps) (a .pre .0 .1 .1) (λ k q. and-left _ _ q) in let e = l .inv .1 .1 .1 .0 in omega arith
+shared-slice-read-out-2 c = let a = c .before .before .before .before .before .before .before .before .before .before .before .before in let l = c .before .before .before .before .before .loop in let t = c .before .before .before .before .loop-test .taken in let v = l .inv .1 .1 .1 .1 in let g = c .before .before .before .if1 .left in let h = leaving-within _ _ _ _ _ _ _ (l .i) v g in let d = leaving-diff _ _ _ _ _ _ _ (l .i) v g (a .pre .0 .1 .0) (a .pre .0 .0 .steps) (a .pre .0 .1 .1) (λ k q. and-left _ _ q) in let e = l .inv .1 .1 .1 .0 in omega (arith, d, e)
 
 -- src/layers.rt:46:13
 add-out-2 : tie.Need-add-out-2 Inv-loop μ-loop
-add-out-2 c = let a = c .before .before .before .before .before .before .before .before .before .before .before .before in let l = c .before .before .before .before .before .loop in let t = c .before .before .before .before .loop-test .taken in let v = l .inv .1 .1 .1 .1 in let g = c .before .before .before .if1 .left in omega (arith, a .good, l .inv .1 .0, g)
+add-out-2 c = omega (arith, c .before .before .before .if1 .left, room (c .before .before .before .before .before .before .before .before .before .before .before .before))
 
 -- src/layers.rt:46:13
 add-out-3 : tie.Need-add-out-3 Inv-loop μ-loop
-add-out-3 c = let a = c .before .before .before .before .before .before .before .before .before .before .before .before in let l = c .before .before .before .before .before .loop in let t = c .before .before .before .before .loop-test .taken in let v = l .inv .1 .1 .1 .1 in let g = c .before .before .before .if1 .left in omega (arith, a .good, l .inv .1 .0, g)
+add-out-3 c = omega (arith, c .before .before .before .if1 .left, room (c .before .before .before .before .before .before .before .before .before .before .before .before))
 
 -- src/layers.rt:46:13
 add-out-4 : tie.Need-add-out-4 Inv-loop μ-loop
-add-out-4 c = let a = c .before .before .before .before .before .before .before .before .before .before .before .before in let l = c .before .before .before .before .before .loop in let t = c .before .before .before .before .loop-test .taken in let v = l .inv .1 .1 .1 .1 in let g = c .before .before .before .if1 .left in omega (arith, a .good, l .inv .1 .0, g)
+add-out-4 c = omega (arith, c .before .before .before .if1 .left, room (c .before .before .before .before .before .before .before .before .before .before .before .before))
 
 -- src/layers.rt:46:9
 mul-out-4 : tie.Need-mul-out-4 Inv-loop μ-loop
-mul-out-4 c = let a = c .before .before .before .before .before .before .before .before .before .before .before .before in let l = c .before .before .before .before .before .loop in let t = c .before .before .before .before .loop-test .taken in let v = l .inv .1 .1 .1 .1 in let g = c .before .before .before .if1 .left in omega (arith, a .good, l .inv .1 .0, g)
+mul-out-4 c = omega (arith, c .before .before .before .if1 .left, room (c .before .before .before .before .before .before .before .before .before .before .before .before))
 
 -- src/layers.rt:46:9
 slice-write-out-2 : tie.Need-slice-write-out-2 Inv-loop μ-loop
-slice-write-out-2 c = let a = c .before .before .before .before .before .before .before .before .before .before .before .before in let l = c .before .before .before .before .before .loop in let t = c .before .before .before .before .loop-test .taken in let v = l .inv .1 .1 .1 .1 in let g = c .before .before .before .if1 .left in simp length-set (omega (arith, l .inv .1 .0, g))
+slice-write-out-2 c = simp length-set (omega (arith, c .before .before .before .if1 .left, c .before .before .before .before .before .loop .inv .1 .0))
 
 -- src/layers.rt:47:13
 keeps-requires : tie.Need-keeps-requires Inv-loop μ-loop
@@ -110,11 +116,11 @@ sub-at c = let a = c .before .before .before .before .before .before .before .be
 
 -- src/layers.rt:48:15
 mul-at : tie.Need-mul-at Inv-loop μ-loop
-mul-at c = let a = c .before .before .before .before .before .before .before .before .before .before .before .before .before in let l = c .before .before .before .before .before .before .loop in let t = c .before .before .before .before .before .loop-test .taken in let v = l .inv .1 .1 .1 .1 in let g = c .before .before .before .before .if1 .left in let h = leaving-within _ _ _ _ _ _ _ (l .i) v g in let b = end-bit _ (l .i) _ (a .pre .0 .0 .steps) (omega (arith, h, a .pre .0 .1 .0)) (l .inv .1 .1 .1 .0) in let q = (λ j. b .1 j * c .keeps .ensures j) ∙ bit-and _ _ in let o = bit-one _ _ q in omega arith
+mul-at c = let a = c .before .before .before .before .before .before .before .before .before .before .before .before .before in let l = c .before .before .before .before .before .before .loop in let t = c .before .before .before .before .before .loop-test .taken in let v = l .inv .1 .1 .1 .1 in let g = c .before .before .before .before .if1 .left in let h = leaving-within _ _ _ _ _ _ _ (l .i) v g in let b = end-bit _ (l .i) _ (a .pre .0 .0 .steps) (omega (arith, h, a .pre .0 .1 .0)) (l .inv .1 .1 .1 .0) in let q = (λ j. b .1 j * c .keeps .ensures j) ∙ bit-and _ _ in let o = bit-one _ _ q in omega (arith, o, b .0)
 
 -- src/layers.rt:48:9
 add-at : tie.Need-add-at Inv-loop μ-loop
-add-at c = let a = c .before .before .before .before .before .before .before .before .before .before .before .before .before in let l = c .before .before .before .before .before .before .loop in let t = c .before .before .before .before .before .loop-test .taken in let v = l .inv .1 .1 .1 .1 in let g = c .before .before .before .before .if1 .left in let h = leaving-within _ _ _ _ _ _ _ (l .i) v g in let b = end-bit _ (l .i) _ (a .pre .0 .0 .steps) (omega (arith, h, a .pre .0 .1 .0)) (l .inv .1 .1 .1 .0) in let q = (λ j. b .1 j * c .keeps .ensures j) ∙ bit-and _ _ in let o = bit-one _ _ q in omega (arith, a .good, l .inv .1 .0, g)
+add-at c = let a = c .before .before .before .before .before .before .before .before .before .before .before .before .before in let l = c .before .before .before .before .before .before .loop in let t = c .before .before .before .before .before .loop-test .taken in let v = l .inv .1 .1 .1 .1 in let g = c .before .before .before .before .if1 .left in let h = leaving-within _ _ _ _ _ _ _ (l .i) v g in let b = end-bit _ (l .i) _ (a .pre .0 .0 .steps) (omega (arith, h, a .pre .0 .1 .0)) (l .inv .1 .1 .1 .0) in let q = (λ j. b .1 j * c .keeps .ensures j) ∙ bit-and _ _ in let o = bit-one _ _ q in omega (arith, o, g, room a)
 
 -- src/layers.rt:50:9
 add-i : tie.Need-add-i Inv-loop μ-loop
@@ -122,7 +128,7 @@ add-i c = let a = c .before .before .before .before .before .before .before .bef
 
 -- src/layers.rt:40:5
 loop-less : tie.Need-loop-less Inv-loop μ-loop
-loop-less c = search needs
+loop-less c = omega (arith, c .before .before .before .before .before .loop-test .taken)
 
 -- src/layers.rt:40:5
 loop-again : tie.Need-loop-again Inv-loop μ-loop

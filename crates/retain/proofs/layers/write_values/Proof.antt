@@ -1,9 +1,11 @@
 -- `retain::layers::write_values` meets its contract: what is written of the values and their times, with what is left to write, is the whole.
-use Prim.Native.Nat.{ℕ, _+_, _-_, _<_, _≤_}
+use Prim.Native.Nat.{ℕ, _+_, _-_, _*_, _<_, _≤_}
 use mathlib.Core.Path.{_≡_, refl, sym, _∙_}
 use mathlib.Core.Logic.{⊎-elim}
 use native.Mathlib.Omega.{arith}
 use lib.ListN.{length, take, drop, length-set}
+use mir.Syntax.{w64}
+use mir.Val.{Fits}
 use Rattle.retain.specs.Keep.{timeKept}
 use Rattle.retain.specs.Onward.{Woven}
 use Rattle.retain.proofs.Weaving.{behind, next-times, put-value, pass-value}
@@ -26,6 +28,10 @@ Inv-loop keep times corners diff-ends diffs vals time-ends from to nv nt base ou
 abbrev μ-loop : tie.MeasureT-loop
 μ-loop keep times corners diff-ends diffs vals time-ends from to nv nt base out₀ at₀ start₀ total₀ i₀ out at start total i = to - i
 
+-- all that is written fits in memory
+room : (a : tie.Start Inv-loop μ-loop) → Fits w64 ((a .args .base + ((a .args .nv + a .args .nv) + (a .args .nt + (a .args .nt + a .args .nt)))) * 8)
+room a = omega (arith, a .pre .1 .1 .1 .0, a .good .1 .1 .1 .1 .1 .1 .1 .1 .1 .1 .1 .1 .1 .0)
+
 -- src/layers.rt:82:5
 loop-holds : tie.Need-loop-holds Inv-loop μ-loop
 loop-holds c = let a = c .before .before .before .before .before .before .before in (refl, (a .pre .1 .1 .1 .0, (a .pre .1 .1 .0 .0, a .pre .1 .1 .1 .1)))
@@ -40,11 +46,11 @@ shared-slice-read-end c = let a = c .before .before .before .before .before .bef
 
 -- src/layers.rt:94:13
 add-write-list : tie.Need-add-write-list Inv-loop μ-loop
-add-write-list c = let a = c .before .before .before .before .before .before .before .before .before .before in let l = c .before .before .loop in let v = l .inv .1 .1 .1 in let h = within _ _ _ (c .before .loop-test .taken) (a .pre .1 .1 .0 .1) in omega (arith, a .good, l .inv .1 .0)
+add-write-list c = omega (arith, room (c .before .before .before .before .before .before .before .before .before .before))
 
 -- src/layers.rt:94:13
 add-write-list-2 : tie.Need-add-write-list-2 Inv-loop μ-loop
-add-write-list-2 c = let a = c .before .before .before .before .before .before .before .before .before .before in let l = c .before .before .loop in let v = l .inv .1 .1 .1 in let h = within _ _ _ (c .before .loop-test .taken) (a .pre .1 .1 .0 .1) in omega (arith, a .good, l .inv .1 .0)
+add-write-list-2 c = omega (arith, room (c .before .before .before .before .before .before .before .before .before .before))
 
 -- src/layers.rt:84:13
 write-list-requires : tie.Need-write-list-requires Inv-loop μ-loop
@@ -60,31 +66,31 @@ shared-slice-read-out c = let a = c .before .before .before .before .before .bef
 
 -- src/layers.rt:98:17
 add-out : tie.Need-add-out Inv-loop μ-loop
-add-out c = let a = c .before .before .before .before .before .before .before .before .before .before .before .before .before .before .before .before in let l = c .before .before .before .before .before .before .before .before .loop in let v = l .inv .1 .1 .1 in let h = within _ _ _ (c .before .before .before .before .before .before .before .loop-test .taken) (a .pre .1 .1 .0 .1) in let g = c .before .if1 .taken in omega (arith, a .good, l .inv .1 .0, g)
+add-out c = omega (arith, c .before .if1 .taken, room (c .before .before .before .before .before .before .before .before .before .before .before .before .before .before .before .before))
 
 -- src/layers.rt:98:13
 mul-out-2 : tie.Need-mul-out-2 Inv-loop μ-loop
-mul-out-2 c = let a = c .before .before .before .before .before .before .before .before .before .before .before .before .before .before .before .before in let l = c .before .before .before .before .before .before .before .before .loop in let v = l .inv .1 .1 .1 in let h = within _ _ _ (c .before .before .before .before .before .before .before .loop-test .taken) (a .pre .1 .1 .0 .1) in let g = c .before .if1 .taken in omega (arith, a .good, l .inv .1 .0, g)
+mul-out-2 c = omega (arith, c .before .if1 .taken, room (c .before .before .before .before .before .before .before .before .before .before .before .before .before .before .before .before))
 
 -- src/layers.rt:98:13
 slice-write-out : tie.Need-slice-write-out Inv-loop μ-loop
-slice-write-out c = let a = c .before .before .before .before .before .before .before .before .before .before .before .before .before .before .before .before in let l = c .before .before .before .before .before .before .before .before .loop in let v = l .inv .1 .1 .1 in let h = within _ _ _ (c .before .before .before .before .before .before .before .loop-test .taken) (a .pre .1 .1 .0 .1) in let r = c .before .before .before .before .write-list in let n = r .kept .1 .1 .1 .1 .1 .1 .1 .1 .1 .1 .0 in let g = c .before .if1 .taken in omega (arith, n, l .inv .1 .0, g)
+slice-write-out c = omega (arith, c .before .if1 .taken, c .before .before .before .before .before .before .before .before .loop .inv .1 .0, c .before .before .before .before .write-list .kept .1 .1 .1 .1 .1 .1 .1 .1 .1 .1 .0)
 
 -- src/layers.rt:99:17
 add-out-2 : tie.Need-add-out-2 Inv-loop μ-loop
-add-out-2 c = let a = c .before .before .before .before .before .before .before .before .before .before .before .before .before .before .before .before in let l = c .before .before .before .before .before .before .before .before .loop in let v = l .inv .1 .1 .1 in let h = within _ _ _ (c .before .before .before .before .before .before .before .loop-test .taken) (a .pre .1 .1 .0 .1) in let g = c .before .if1 .taken in omega (arith, a .good, l .inv .1 .0, g)
+add-out-2 c = omega (arith, c .before .if1 .taken, room (c .before .before .before .before .before .before .before .before .before .before .before .before .before .before .before .before))
 
 -- src/layers.rt:99:17
 add-out-3 : tie.Need-add-out-3 Inv-loop μ-loop
-add-out-3 c = let a = c .before .before .before .before .before .before .before .before .before .before .before .before .before .before .before .before in let l = c .before .before .before .before .before .before .before .before .loop in let v = l .inv .1 .1 .1 in let h = within _ _ _ (c .before .before .before .before .before .before .before .loop-test .taken) (a .pre .1 .1 .0 .1) in let g = c .before .if1 .taken in omega (arith, a .good, l .inv .1 .0, g)
+add-out-3 c = omega (arith, c .before .if1 .taken, room (c .before .before .before .before .before .before .before .before .before .before .before .before .before .before .before .before))
 
 -- src/layers.rt:99:13
 mul-out-3 : tie.Need-mul-out-3 Inv-loop μ-loop
-mul-out-3 c = let a = c .before .before .before .before .before .before .before .before .before .before .before .before .before .before .before .before in let l = c .before .before .before .before .before .before .before .before .loop in let v = l .inv .1 .1 .1 in let h = within _ _ _ (c .before .before .before .before .before .before .before .loop-test .taken) (a .pre .1 .1 .0 .1) in let g = c .before .if1 .taken in omega (arith, a .good, l .inv .1 .0, g)
+mul-out-3 c = omega (arith, c .before .if1 .taken, room (c .before .before .before .before .before .before .before .before .before .before .before .before .before .before .before .before))
 
 -- src/layers.rt:99:13
 slice-write-out-2 : tie.Need-slice-write-out-2 Inv-loop μ-loop
-slice-write-out-2 c = let a = c .before .before .before .before .before .before .before .before .before .before .before .before .before .before .before .before in let l = c .before .before .before .before .before .before .before .before .loop in let v = l .inv .1 .1 .1 in let h = within _ _ _ (c .before .before .before .before .before .before .before .loop-test .taken) (a .pre .1 .1 .0 .1) in let r = c .before .before .before .before .write-list in let n = r .kept .1 .1 .1 .1 .1 .1 .1 .1 .1 .1 .0 in let g = c .before .if1 .taken in simp length-set (omega (arith, n, l .inv .1 .0, g))
+slice-write-out-2 c = simp length-set (omega (arith, c .before .if1 .taken, c .before .before .before .before .before .before .before .before .loop .inv .1 .0, c .before .before .before .before .write-list .kept .1 .1 .1 .1 .1 .1 .1 .1 .1 .1 .0))
 
 -- src/layers.rt:101:13
 bit-of-requires : tie.Need-bit-of-requires Inv-loop μ-loop
@@ -92,7 +98,7 @@ bit-of-requires c κs = search needs
 
 -- src/layers.rt:102:9
 add-at : tie.Need-add-at Inv-loop μ-loop
-add-at c = let a = c .before .before .before .before .before .before .before .before .before .before .before .before .before .before .before .before in let l = c .before .before .before .before .before .before .before .before .loop in let v = l .inv .1 .1 .1 in let h = within _ _ _ (c .before .before .before .before .before .before .before .loop-test .taken) (a .pre .1 .1 .0 .1) in let p = v .values .place in let b = bit-one _ _ (c .bit-of .ensures) in omega (arith, a .good, l .inv .1 .0)
+add-at c = omega (arith, c .before .before .before .before .before .before .before .before .loop .inv .1 .1 .1 .values .place, bit-one _ _ (c .bit-of .ensures), room (c .before .before .before .before .before .before .before .before .before .before .before .before .before .before .before .before))
 
 -- src/layers.rt:105:9
 add-i : tie.Need-add-i Inv-loop μ-loop
@@ -100,7 +106,7 @@ add-i c = let a = c .before .before .before .before .before .before .before .bef
 
 -- src/layers.rt:82:5
 loop-less : tie.Need-loop-less Inv-loop μ-loop
-loop-less c = search needs
+loop-less c = omega (arith, c .before .before .before .before .before .before .before .loop-test .taken)
 
 -- src/layers.rt:82:5
 loop-again : tie.Need-loop-again Inv-loop μ-loop

@@ -22,6 +22,20 @@ turn : (corners : List ℕ) (limit : ℕ) (times : List ℕ) (found : Bool) (bes
 unfolding leastFrom
 turn corners limit times found best i h = rw (add-one, drop-cons times i 0)
 
+-- the next time is the best so far
+taken : (corners : List ℕ) (limit : ℕ) (times : List ℕ) (found : Bool) (best i : ℕ) (found' : Bool) (best' : ℕ) → i < length times
+    → betterThan corners limit found best (getD times i 0) ≡ true → found' ≡ true → best' ≡ getD times i 0
+    → leastFrom corners limit times false 0 ≡ leastFrom corners limit (drop i times) found best
+    → (i + 1 ≤ length times) × (leastFrom corners limit times false 0 ≡ leastFrom corners limit (drop (i + 1) times) found' best')
+taken corners limit times found best i found' best' h b p q e = (omega arith, rw (p, q) (e ∙ turn corners limit times found best i h ∙ simp b))
+
+-- the next time is no better
+passed : (corners : List ℕ) (limit : ℕ) (times : List ℕ) (found : Bool) (best i : ℕ) (found' : Bool) (best' : ℕ) → i < length times
+    → betterThan corners limit found best (getD times i 0) ≡ false → found' ≡ found → best' ≡ best
+    → leastFrom corners limit times false 0 ≡ leastFrom corners limit (drop i times) found best
+    → (i + 1 ≤ length times) × (leastFrom corners limit times false 0 ≡ leastFrom corners limit (drop (i + 1) times) found' best')
+passed corners limit times found best i found' best' h b p q e = (omega arith, rw (p, q) (e ∙ turn corners limit times found best i h ∙ simp b))
+
 abbrev Inv-loop : tie.InvT-loop
 Inv-loop times corners limit found₀ best₀ i₀ found best i = (i ≤ length times) × (leastFrom corners limit times false 0 ≡ leastFrom corners limit (drop i times) found best)
 
@@ -52,8 +66,8 @@ loop-again c =
     let t = c .before .before .before .loop-test .taken in
     let q = c .before .better .ensures in
     ⊎-elim
-    (λ w. rw (w .1, w .2) (omega arith, l .inv .1 ∙ turn _ _ _ _ _ _ t ∙ simp (sym q ∙ w .0 .taken)))
-    (λ w. rw (w .1, w .2) (omega arith, l .inv .1 ∙ turn _ _ _ _ _ _ t ∙ simp (sym q ∙ w .0 .left)))
+    (λ w. taken _ _ _ _ (l .best) (l .i) _ _ t (sym q ∙ w .0 .taken) (w .1) (w .2) (l .inv .1))
+    (λ w. passed _ _ _ _ (l .best) (l .i) _ _ t (sym q ∙ w .0 .left) (w .1) (w .2) (l .inv .1))
     (c .if1 .came)
 
 returns : tie.Need-returns Inv-loop μ-loop

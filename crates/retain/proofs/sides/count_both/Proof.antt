@@ -47,7 +47,7 @@ bit-of-requires : tie.Need-bit-of-requires Inv-loop μ-loop
 bit-of-requires c κs = search needs
 
 add-open-keys : tie.Need-add-open-keys Inv-loop μ-loop
-add-open-keys c = let w = c .before .before .before .before .loop .inv .0 .counted .within in let m = bit-one _ _ (c .bit-of .ensures) in omega arith
+add-open-keys c = omega (arith, c .before .before .before .before .loop .inv .0 .counted .within, bit-one _ _ (c .bit-of .ensures), c .before .before .before .loop-test .taken, c .before .before .before .before .before .before .before .before .before .before .good .1 .1 .1 .1 .0)
 
 add-open-vals : tie.Need-add-open-vals Inv-loop μ-loop
 add-open-vals c =
@@ -56,13 +56,13 @@ add-open-vals c =
     let t = c .before .before .before .loop-test .taken in
     let e = end-within _ _ (l .i) (l .lower) (a .pre .1 .1) t (l .inv .2) in
     let r = listed-room _ _ _ _ (l .i) (l .inv .0) t _ (start-counts _ _ (l .i) (l .lower) _ (l .inv .2) (c .before .both-values .ensures .0)) in
-    omega arith
+    omega (arith, e, r, a .good .1 .1 .1 .0)
 
 bit-of-requires-2 : tie.Need-bit-of-requires-2 Inv-loop μ-loop
 bit-of-requires-2 c κs = search needs
 
 add-shut-keys : tie.Need-add-shut-keys Inv-loop μ-loop
-add-shut-keys c = let w = c .before .before .before .before .before .loop .inv .1 .counted .within in let m = bit-one _ _ (c .bit-of2 .ensures) in omega arith
+add-shut-keys c = omega (arith, c .before .before .before .before .before .loop .inv .1 .counted .within, bit-one _ _ (c .bit-of2 .ensures), c .before .before .before .before .loop-test .taken, c .before .before .before .before .before .before .before .before .before .before .before .good .1 .1 .1 .1 .0)
 
 add-shut-vals : tie.Need-add-shut-vals Inv-loop μ-loop
 add-shut-vals c =
@@ -71,7 +71,7 @@ add-shut-vals c =
     let t = c .before .before .before .before .loop-test .taken in
     let e = end-within _ _ (l .i) (l .lower) (a .pre .1 .1) t (l .inv .2) in
     let r = listed-room _ _ _ _ (l .i) (l .inv .1) t _ (start-counts _ _ (l .i) (l .lower) _ (l .inv .2) (c .before .before .both-values .ensures .1)) in
-    omega arith
+    omega (arith, e, r, a .good .1 .1 .1 .0)
 
 sub-at : tie.Need-sub-at Inv-loop μ-loop
 sub-at c =
@@ -79,7 +79,7 @@ sub-at c =
     let l = c .before .before .before .before .before .loop in
     let t = c .before .before .before .before .loop-test .taken in
     let e = end-within _ _ (l .i) (l .lower) (a .pre .1 .1) t (l .inv .2) in
-    omega arith
+    omega (arith, e)
 
 mul-at : tie.Need-mul-at Inv-loop μ-loop
 mul-at c =
@@ -87,7 +87,7 @@ mul-at c =
     let l = c .before .before .before .before .before .loop in
     let t = c .before .before .before .before .loop-test .taken in
     let e = end-within _ _ (l .i) (l .lower) (a .pre .1 .1) t (l .inv .2) in
-    search needs
+    omega (arith, e, a .good .1 .1 .1 .0)
 
 shared-slice-read-at : tie.Need-shared-slice-read-at Inv-loop μ-loop
 shared-slice-read-at c =
@@ -95,13 +95,13 @@ shared-slice-read-at c =
     let l = c .before .before .before .before .before .before .loop in
     let t = c .before .before .before .before .before .loop-test .taken in
     let e = end-within _ _ (l .i) (l .lower) (a .pre .1 .1) t (l .inv .2) in
-    omega arith
+    omega (arith, e)
 
 add-i : tie.Need-add-i Inv-loop μ-loop
-add-i c = search needs
+add-i c = omega (arith, c .before .before .before .before .before .loop-test .taken, c .before .before .before .before .before .before .before .before .before .before .before .before .good .1 .1 .1 .1 .0)
 
 loop-less : tie.Need-loop-less Inv-loop μ-loop
-loop-less c = search needs
+loop-less c = omega (arith, c .before .before .before .before .before .loop-test .taken)
 
 loop-again : tie.Need-loop-again Inv-loop μ-loop
 loop-again c =

@@ -1,60 +1,64 @@
 -- `retain::stay::lists_of` meets its contract: the parts cut out are the bodies.
 use mathlib.Core.Path.{sym}
 use Rattle.retain.proofs.Retained.{cut-bodies, cut-standing, rises-as}
-use borrow.Author.Needs.{needs}
+use Rattle.retain.proofs.Lending.{Lending, lending}
+use native.Mathlib.Omega.{arith}
 use Rattle.retain.proofs.stay.lists_of.Statement.{statement}
 use Rattle.retain.proofs.stay.lists_of.Tie as tie
 use Rattle.retain.proofs.stay.lists_of.Reads as reads
 use Rattle.retain.proofs.stay.lists_of.Lts as lts
 use Rattle.retain.proofs.stay.count_lists.Reads as count-lists-reads
 
+lent : (a : tie.Start) → Lending (a .args .found) (a .args .words .now)
+lent a = lending _ _ (a .pre .1) (omega (arith, a .good .0))
+
 -- src/stay.rt:100:9
 mul-count-lists : tie.Need-mul-count-lists
-mul-count-lists c = search needs
+mul-count-lists c = lent (c .before) .its-diff-ends .bytes
 
 -- src/stay.rt:100:9
 sub-count-lists : tie.Need-sub-count-lists
-sub-count-lists c = search needs
+sub-count-lists c = lent (c .before) .its-diff-ends .ordered
 
 -- src/stay.rt:100:9
 part-count-lists-start : tie.Need-part-count-lists-start
-part-count-lists-start c = search needs
+part-count-lists-start c = lent (c .before) .its-diff-ends .ordered
 
 -- src/stay.rt:100:9
 part-count-lists-end : tie.Need-part-count-lists-end
-part-count-lists-end c = search needs
+part-count-lists-end c = lent (c .before) .its-diff-ends .within
 
 -- src/stay.rt:101:9
 mul-count-lists-2 : tie.Need-mul-count-lists-2
-mul-count-lists-2 c = search needs
+mul-count-lists-2 c = lent (c .before .before) .its-time-ends .bytes
 
 -- src/stay.rt:101:9
 sub-count-lists-2 : tie.Need-sub-count-lists-2
-sub-count-lists-2 c = search needs
+sub-count-lists-2 c = lent (c .before .before) .its-time-ends .ordered
 
 -- src/stay.rt:101:9
 part-count-lists-start-2 : tie.Need-part-count-lists-start-2
-part-count-lists-start-2 c = search needs
+part-count-lists-start-2 c = lent (c .before .before) .its-time-ends .ordered
 
 -- src/stay.rt:101:9
 part-count-lists-end-2 : tie.Need-part-count-lists-end-2
-part-count-lists-end-2 c = search needs
+part-count-lists-end-2 c = lent (c .before .before) .its-time-ends .within
 
 -- src/stay.rt:102:9
 mul-count-lists-3 : tie.Need-mul-count-lists-3
-mul-count-lists-3 c = search needs
+mul-count-lists-3 c = lent (c .before .before .before) .its-val-ends .bytes
 
 -- src/stay.rt:102:9
 sub-count-lists-3 : tie.Need-sub-count-lists-3
-sub-count-lists-3 c = search needs
+sub-count-lists-3 c = lent (c .before .before .before) .its-val-ends .ordered
 
 -- src/stay.rt:102:9
 part-count-lists-start-3 : tie.Need-part-count-lists-start-3
-part-count-lists-start-3 c = search needs
+part-count-lists-start-3 c = lent (c .before .before .before) .its-val-ends .ordered
 
 -- src/stay.rt:102:9
 part-count-lists-end-3 : tie.Need-part-count-lists-end-3
-part-count-lists-end-3 c = search needs
+part-count-lists-end-3 c = lent (c .before .before .before) .its-val-ends .within
 
 -- src/stay.rt:99:5
 count-lists-requires : tie.Need-count-lists-requires

@@ -6,7 +6,8 @@ ghost use Rattle.chunk.specs.Words.{over};
 ghost use Rattle.form.specs.Form.{FormAnswers, UnsortedAnswers};
 ghost use Rattle.meld.specs.Meld.{Melded};
 ghost use Rattle.retain.specs.Answer.{verdictNumber};
-ghost use Rattle.retain.specs.Cut.{filterNumber, filterOut, Split};
+ghost use Rattle.retain.specs.Cut.{filterNumber, filterOut};
+ghost use Rattle.split.specs.Cut.{Split};
 ghost use Rattle.reports.specs.Survey.{reports};
 ghost use Rattle.survey.specs.Reports.{keysOf};
 ghost use Rattle.reports.specs.Merge.{suffixNumber, suffixOut};
@@ -99,7 +100,7 @@ pub extern "C" fn rl_filter_zero(words: &[u64], out: &mut [u64]) -> u64
 pub extern "C" fn rl_split_at(words: &[u64], n: u64, first: &mut [u64], rest: &mut [u64]) -> u64
     ensures { λ r. ⌜ Split r (now (first .exit)) (now (rest .exit)) (now (words .entry)) n (now (first .entry)) (now (rest .entry)) ⌝ }
 {
-    retain::split_at(words, n, first, rest)
+    split::split_at(words, n, first, rest)
 }
 
 // The chunk of the records from the time at index t on, whose key and value are at k and v.

@@ -12,3 +12,12 @@ pub mod Frame
 pub mod Totals
 pub mod OneChunk
 pub mod Wrap
+pub mod Ends
+pub mod Closings
+pub mod Picked
+pub mod Bodies
+pub mod Stores
+pub mod Parts
+pub mod Whole
+pub mod Checked
+pub mod Lending

@@ -14,7 +14,8 @@ use Rattle.laws.specs.OneChunk.{fits, Says}
 use Rattle.laws.proofs.Tests.{and-left, and-right, and-both}
 use Rattle.laws.proofs.OneChunk.{chunk-says, front-is-chunk, settled-stands}
 use Rattle.laws.proofs.Order.{keep-rising}
-use Rattle.retain.proofs.Records.{keep-every, take-every, drop-every, take-rising, drop-rising}
+use Rattle.retain.proofs.Records.{keep-every}
+use Rattle.split.proofs.Records.{take-every, drop-every, take-rising, drop-rising}
 use Rattle.ledger.proofs.Lists.{every-append, length-keep, rising-append}
 
 -- positions rise, each with a change, a machine word; no more of them than a chunk may have

@@ -20,7 +20,8 @@ use Rattle.form.specs.Form.{falls, inRange, formNumber, unsortedNumber}
 use Rattle.reports.specs.Merge.{Place, placeAt, soundAt, overflows, mergeNumber, suffixNumber}
 use Rattle.reports.specs.Survey.{surveyNumber}
 use Rattle.retain.specs.Frontier.{most, sound, ordered}
-use Rattle.retain.specs.Cut.{filterNumber, splitNumber}
+use Rattle.retain.specs.Cut.{filterNumber}
+use Rattle.split.specs.Cut.{splitNumber}
 use Rattle.retain.specs.Extract.{extractNumber}
 use Rattle.meld.specs.Meld.{follows, meldNumber}
 use Rattle.whole.specs.Whole.{wholeNumber}

@@ -15,7 +15,8 @@ use Rattle.sort.specs.Sort.{updates, sort}
 use Rattle.form.specs.Form.{formed, falls, inRange, formNumber, formOut, unsortedNumber, unsortedOut}
 use Rattle.reports.specs.Merge.{merged, Place, Survives, nobody, theFirst, theSecond, mergeOut, suffixNumber, suffixOut}
 use Rattle.retain.specs.Frontier.{isOpen}
-use Rattle.retain.specs.Cut.{filterNumber, filterOut, splitNumber, splitFirst, splitRest}
+use Rattle.retain.specs.Cut.{filterNumber, filterOut}
+use Rattle.split.specs.Cut.{splitNumber, splitFirst, splitRest}
 use Rattle.retain.specs.Extract.{extractNumber, keptOf, shippedOf, keptOut, shippedOut}
 use Rattle.meld.specs.Meld.{meldNumber, meldOut}
 use Rattle.whole.specs.Whole.{survives, wholeNumber, restNumber, restOut, cleanOut, leftOut}
@@ -28,7 +29,8 @@ use Rattle.form.proofs.Sorted.{sort-every, sort-length, sort-unfallen}
 use Rattle.form.proofs.Formed.{formed-rises, formed-stands, formed-length, formed-total}
 use Rattle.reports.specs.Theorems.{leftOf}
 use Rattle.reports.proofs.Merged.{merged-rises, merged-short, totals-kept}
-use Rattle.retain.proofs.Records.{total-append, total-cut, total-keep, total-filtered, keep-every, keep-passes}
+use Rattle.split.proofs.Records.{total-append, total-cut}
+use Rattle.retain.proofs.Records.{total-keep, total-filtered, keep-every, keep-passes}
 use Rattle.ledger.specs.Ledger.{State, Call, form, formUnsorted, split, extract, meld, merge, start, at, without, withoutTwo, holds, holdsTwo, accepted, swap, restHeld, mergedState, after, run, heldTotal, callFits}
 use Rattle.ledger.proofs.Ordered.{Passed, passed}
 use Rattle.ledger.proofs.Tests.{formTests, form-first, unsortedTests, unsorted-first, meldTests, meld-first}

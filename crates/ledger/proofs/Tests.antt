@@ -13,7 +13,8 @@ use Rattle.form.specs.Form.{falls, inRange, room, formNumber, unsortedNumber}
 use Rattle.reports.specs.Merge.{Place, soundAt, overflows, scratchRoom, mergeNumber, suffixNumber}
 use Rattle.reports.specs.Survey.{surveyNumber}
 use Rattle.retain.specs.Frontier.{most, sound}
-use Rattle.retain.specs.Cut.{filterNumber, splitNumber}
+use Rattle.retain.specs.Cut.{filterNumber}
+use Rattle.split.specs.Cut.{splitNumber}
 use Rattle.retain.specs.Extract.{frontierOf, extractNumber}
 use Rattle.meld.specs.Meld.{follows, meldNumber}
 

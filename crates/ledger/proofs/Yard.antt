@@ -8,7 +8,8 @@ use Rattle.chunk.specs.Refusal.{first, written}
 use Rattle.sort.specs.Sort.{updates}
 use Rattle.form.specs.Form.{formed, consolidated, falls, formNumber, formOut}
 use Rattle.reports.specs.Merge.{mergeNumber, mergeOut, merged, union, insertAdd, lastOr, overflows, overflowsAt, survivor, theFirst, placeAt, suffixNumber, suffixOut, soundAt}
-use Rattle.retain.specs.Cut.{filterNumber, filterOut, splitNumber, splitFirst, splitRest}
+use Rattle.retain.specs.Cut.{filterNumber, filterOut}
+use Rattle.split.specs.Cut.{splitNumber, splitFirst, splitRest}
 use Rattle.retain.specs.Frontier.{isOpen, any, ordered, sound, leastOf, insertTime}
 use Rattle.retain.specs.Extract.{keptOf, shippedOf, frontierOf, extractNumber, keptOut, shippedOut, verdict, mixed}
 use Rattle.meld.specs.Meld.{meldNumber, follows, lastBefore}

@@ -15,7 +15,7 @@ use Rattle.laws.specs.OneChunk.{isWord, fits}
 use Rattle.sort.specs.Sort.{updates}
 use Rattle.form.specs.Form.{formNumber, formOut, unsortedNumber, unsortedOut}
 use Rattle.reports.specs.Merge.{Survives, nobody, theFirst, theSecond}
-use Rattle.retain.specs.Cut.{splitNumber, splitFirst, splitRest}
+use Rattle.split.specs.Cut.{splitNumber, splitFirst, splitRest}
 use Rattle.retain.specs.Extract.{extractNumber, keptOut, shippedOut}
 use Rattle.meld.specs.Meld.{meldNumber, meldOut}
 use Rattle.whole.specs.Whole.{survives, wholeNumber, cleanOut, leftOut}

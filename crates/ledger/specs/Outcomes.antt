@@ -6,7 +6,7 @@ use mathlib.Core.Bool.{true}
 use mathlib.Core.List.{List, [], _∷_, _++_}
 use Rattle.sort.specs.Sort.{updates}
 use Rattle.form.specs.Form.{FormAnswers, UnsortedAnswers}
-use Rattle.retain.specs.Cut.{Split}
+use Rattle.split.specs.Cut.{Split}
 use Rattle.retain.specs.declared.Extracted.{Extracted}
 use Rattle.retain.specs.Answer.{Extraction}
 use Rattle.meld.specs.Meld.{Melded}

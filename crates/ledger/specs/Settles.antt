@@ -19,7 +19,8 @@ use Rattle.reports.specs.Merge.{Place, mergeNumber, suffixNumber, suffixOut}
 use Rattle.reports.specs.Refusals.{Refused}
 use Rattle.merge.specs.Outcome.{MergeAnswers}
 use Rattle.reports.specs.Run.{runOf}
-use Rattle.retain.specs.Cut.{filterNumber, filterOut, Split}
+use Rattle.retain.specs.Cut.{filterNumber, filterOut}
+use Rattle.split.specs.Cut.{Split}
 use Rattle.retain.specs.declared.Extracted.{Extracted}
 use Rattle.retain.specs.declared.Frontier.{Frontier}
 use Rattle.retain.specs.Found.{emptyFrontier}

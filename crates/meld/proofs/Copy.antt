@@ -1,11 +1,20 @@
 -- A copy loop: before turn i the front holds the first i of the source, and past them what was lent.
-use Prim.Native.Nat.{ℕ, suc, _+_, _<_, _≤_}
-use mathlib.Core.Path.{_≡_, _∙_}
-use mathlib.Core.List.{List, _++_}
+use Prim.Native.Nat.{ℕ, suc, _+_, _-_, _<_, _≤_}
+use mathlib.Core.Path.{_≡_, sym, _∙_, ap}
+use mathlib.Core.Bool.{true}
+use mathlib.Core.List.{List, _++_, append-nil}
 use native.Mathlib.Omega.{arith}
 use native.Mathlib.Numerals.{add-one}
 use lib.ListN.{length, take, drop, getD, set, drop-of-length-le}
-use lib.Seq.{drop-cons, take-suc, set-at, length-take-le, take-all, append-snoc}
+use lib.Seq.{drop-cons, take-suc, set-at, length-take-le, take-all, append-snoc, sets}
+use borrow.Rule.Slice.PartMut.{putMid}
+use Rattle.chunk.specs.Bodies.{chunkOf}
+use Rattle.chunk.specs.Words.{wellFormed, entries, over, size}
+use Rattle.laws.specs.Picked.{countUp}
+use Rattle.laws.proofs.Picked.{length-countUp}
+use Rattle.laws.proofs.Parts.{part-length}
+use Rattle.laws.proofs.Stores.{sets-front, sets-whole, put-sets}
+use Rattle.laws.proofs.Whole.{as-it-is}
 use Rattle.meld.specs.Copy.{copied}
 
 -- what the destination holds before turn i
@@ -32,3 +41,31 @@ unfolding copied
 copied-full dst src i h k e =
     let q : i ≡ length dst = omega arith in
     rw (q, drop-of-length-le dst {i = length dst} (omega arith), drop-of-length-le dst {i = length src} (omega arith))
+
+-- at the destination's end, whatever the source
+pub partly-end : (dst src : List ℕ) (i : ℕ) → i ≤ length dst → length dst ≤ i → partly dst src i ≡ take (length dst) src
+partly-end dst src i h k =
+    let e : i ≡ length dst = omega arith in
+    ap (λ (x : List ℕ). take i src ++ x) (drop-of-length-le dst k) ∙ append-nil (take i src) ∙ ap (λ (n : ℕ). take n src) e
+
+-- a copy for which there is room, as stores
+pub copied-sets : (dst src : List ℕ) → length src ≤ length dst → copied dst src ≡ sets dst 0 src
+unfolding copied
+copied-sets dst src h = ap (λ (x : List ℕ). x ++ drop (length src) dst) (take-all (length dst) src h) ∙ sym (sets-front src dst h)
+
+-- a chunk's words copied to the front of an output that has room for them
+pub copied-chunk : (w : List ℕ) → wellFormed w ≡ true → (out : List ℕ) (n : ℕ) → n ≡ size w → size w ≤ length w → size w ≤ length out
+    → copied out (take n w) ≡ over (chunkOf (entries w)) out
+copied-chunk w formed out n e a b = copied-sets out (take n w) (let l = length-take-le n w (omega arith) in omega arith) ∙ as-it-is w formed out n e a b
+
+-- ---- a part of a slice that is filled
+
+pub put-copy : (a e : ℕ) (l src p : List ℕ) → e ≡ a + length src → e ≤ length l → p ≡ copied (take (e - a) (drop a l)) src → putMid a (e - a) l p ≡ sets l a src
+put-copy a e l src p h k q =
+    let n : length (take (e - a) (drop a l)) ≡ length src = part-length l a e (length src) h k in
+    ap (putMid a (e - a) l) (q ∙ copied-sets (take (e - a) (drop a l)) src (omega arith) ∙ sets-whole src (take (e - a) (drop a l)) (sym n)) ∙ put-sets a e l src h k
+
+pub put-count : (a e n : ℕ) (l p : List ℕ) → e ≡ a + n → e ≤ length l → p ≡ countUp 0 (length (take (e - a) (drop a l))) → putMid a (e - a) l p ≡ sets l a (countUp 0 n)
+put-count a e n l p h k q =
+    let c : length (countUp 0 n) ≡ n = length-countUp 0 n in
+    ap (putMid a (e - a) l) (q ∙ ap (countUp 0) (part-length l a e n h k)) ∙ put-sets a e l (countUp 0 n) (omega arith) k

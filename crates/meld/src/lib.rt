@@ -4,7 +4,9 @@ ghost use mathlib.Core.Path.{_≡_};
 ghost use mathlib.Core.List.{_++_};
 ghost use Prim.Native.Nat.{_+_};
 ghost use lib.Dec.{leb};
+ghost use lib.ListN.{length};
 ghost use Rattle.chunk.specs.Words.{body, entries, headOr0, limit};
+ghost use Rattle.laws.specs.Picked.{countUp};
 ghost use Rattle.meld.specs.Copy.{copied, shiftedAll, gone, placedIn};
 ghost use Rattle.meld.specs.Seam.{Holds, Both, lastOr0, lastPosition, firstPosition, asEntry, seamAt, seamOf};
 ghost use Rattle.meld.specs.Meld.{Melded, PairMelded};
@@ -51,6 +53,17 @@ pub fn copy_shifted(dst: &mut [u64], ends: &[u64], by: u64)
         let end = ends[list];
         dst[list] = std::num::wrapping_add_u64(end, by);
         list += 1;
+    }
+}
+
+// Fills a slice with 1, 2 and so on: the ends of lists of one item each.
+pub fn count_up(dst: &mut [u64])
+    ensures { λ _. ⌜ now (dst .exit) ≡ countUp 0 (length (now (dst .entry))) ⌝ }
+{
+    let mut place = 0;
+    while place < dst.len() {
+        dst[place] = place as u64 + 1;
+        place += 1;
     }
 }
 

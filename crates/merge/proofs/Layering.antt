@@ -6,12 +6,12 @@ use mathlib.Core.List.{List, [], _∷_, _++_}
 use native.Mathlib.Omega.{arith}
 use lib.ListN.{length, take, drop}
 use lib.Seq.{take-length}
-use mir.Syntax.{w64}
-use mir.Val.{Fits}
 use Rattle.chunk.specs.Entry.{Entry}
 use Rattle.chunk.specs.Words.{entries, rises}
 use Rattle.chunk.specs.Bodies.{keys, vals, times, valEnds, timeEnds}
 use Rattle.chunk.specs.declared.Contents.{Contents}
+use Rattle.chunk.specs.Contents.{contentsOf, Placed}
+use Rattle.chunk.proofs.Placed as its
 use Rattle.chunk.proofs.WellFormed.{Parts, parts}
 use Rattle.laws.proofs.Layers.{Seven, ofEntries}
 use Rattle.laws.proofs.Frame.{inWords}
@@ -69,24 +69,10 @@ shape w c d =
     all-of : (l : List ℕ) (n : ℕ) → length l ≡ n → between 0 n l ≡ l
     all-of l n e = let z : n - 0 ≡ length l = omega arith in rw z (take-length l)
 
--- the part of words from `a` to `b` can be lent
-pub record Lent (w : List ℕ) (a b : ℕ) : Type 0 where
-  pub bytes : Fits w64 (a * 8)
-  pub ordered : a ≤ b
-  pub within : b ≤ length w
-
--- the five parts of one chunk's words that hold layers can each be lent
-pub record Lending (w : List ℕ) (c : Contents) : Type 0 where
-  pub its-keys : Lent w (c .«keys_at») (c .«val_ends_at»)
-  pub its-val-ends : Lent w (c .«val_ends_at») (c .«vals_at»)
-  pub its-vals : Lent w (c .«vals_at») (c .«time_ends_at»)
-  pub its-time-ends : Lent w (c .«time_ends_at») (c .«times_at»)
-  pub its-times : Lent w (c .«times_at») (c .«diff_ends_at»)
-
-pub lending : (w : List ℕ) (c : Contents) → Read w c → Fits w64 (length w * 8) → Lending w c
-lending w c d h =
-    let r : Reading w c = reading w c d in
-    omega (arith, h, r .val-end-place, r .val-place, r .time-end-place, r .time-place, r .diff-end-place, r .diff-place, r .end-place, r .whole)
+-- contents that were read are those of the words
+pub its-places : (w : List ℕ) (c : Contents) → Read w c → Placed c w
+unfolding contentsOf
+its-places w c d = let t = parts w (d .formed) .tableFits in rw (d .contents) (rw t at (its.placed w t))
 
 module _ (w0 : List ℕ) (c0 : Contents) (w1 : List ℕ) (c1 : Contents) (s : List ℕ) (y : LayersRoom w0 c0 w1 c1 s) where
   abbrev es : List Entry

@@ -2,15 +2,17 @@
 use Prim.Native.Nat.{ℕ, zero, suc, _+_, _-_, _<_, _≤_}
 use mathlib.Core.Path.{_≡_, refl, sym, _∙_, ap}
 use mathlib.Core.Bool.{Bool, true, false, cond}
-use mathlib.Core.List.{List, [], _∷_}
+use mathlib.Core.List.{List}
 use native.Mathlib.Omega.{arith}
 use lib.Dec.{ltb}
 use lib.ListN.{length, getD}
-use borrow.Author.Tests.{lt-ltb, ltb-true}
+use borrow.Author.Tests.{lt-ltb}
 use Rattle.chunk.specs.declared.Range.{Range}
 use Rattle.chunk.specs.Contents.{startOf, childRange}
-use Rattle.laws.proofs.Tests.{by-test, and-left, and-right}
-use Rattle.retain.specs.Layers.{bit, countKept, listKept, ListsLeft}
+use Rattle.laws.proofs.Ends.{start-below, start-as}
+use Rattle.laws.proofs.Tests.{by-test}
+use Rattle.retain.specs.Layers.{bit, ListsLeft}
+use Rattle.laws.specs.Picked.{countKept, listKept}
 use Rattle.chunk.specs.Words.{risesFrom}
 
 -- one item more, counted or not
@@ -84,17 +86,6 @@ count-add m i (suc a) b =
     let z : suc a + b ≡ suc (a + b) = omega arith in
     let ih : countKept m (suc i) (a + b) ≡ countKept m (suc i) a + countKept m (i + suc a) b = count-add m (suc i) a b ∙ ap (λ (x : ℕ). countKept m (suc i) a + countKept m x b) e in
     ap (countKept m i) z ∙ by-test (m i) (λ k. simp k (omega arith)) (λ k. simp k (omega arith))
-
--- a list that is there ends above its start
-pub start-below : (low : ℕ) (ends : List ℕ) (i : ℕ) → risesFrom low ends ≡ true → i < length ends → getD (low ∷ ends) i 0 < getD ends i 0
-unfolding risesFrom
-start-below low [] i r h = absurd (omega arith)
-start-below low (e ∷ ends) zero r h = ltb-true _ _ (and-left _ _ r)
-start-below low (e ∷ ends) (suc i) r h = start-below e ends i (and-right (ltb low e) _ r) (omega arith)
-
-pub start-as : (ends : List ℕ) (i : ℕ) → startOf ends i ≡ getD (0 ∷ ends) i 0
-start-as ends zero = refl
-start-as ends (suc i) = refl
 
 -- the next list starts where this one ends
 pub start-next : (ends : List ℕ) (i : ℕ) → getD ends i 0 ≡ startOf ends (i + 1)

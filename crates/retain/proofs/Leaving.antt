@@ -11,27 +11,18 @@ use borrow.Author.Tests.{ltb-true, ltb-false}
 use Rattle.chunk.specs.Contents.{startOf}
 use Rattle.laws.proofs.Lists.{no-length}
 use Rattle.laws.proofs.Tests.{by-test}
+use Rattle.laws.proofs.Picked.{length-countUp}
 use Rattle.retain.specs.Frontier.{ordered}
-use Rattle.retain.specs.Layers.{countKept, pickAt, countUp, leavesOut, hasDiff, bit, EndsWithin, EndsStep, Ready, Bodies}
+use Rattle.laws.specs.Picked.{countKept, countUp}
+use Rattle.retain.specs.Layers.{pickAt, leavesOut, hasDiff, bit, EndsWithin, EndsStep, Ready, Bodies}
 use Rattle.retain.specs.Onward.{Leaving}
 use Rattle.retain.proofs.Counts.{count-in, count-out, count-none, count-add}
-use Rattle.retain.proofs.Stores.{set-sets, set-over, sets-sets, fill-three}
+use Rattle.laws.proofs.Stores.{set-sets, set-over, sets-sets, fill-three}
 
 length-pickAt : (m : ℕ → Bool) (f : ℕ → ℕ) (i n : ℕ) → length (pickAt m f i n) ≡ countKept m i n
 unfolding pickAt countKept
 length-pickAt m f i zero = refl
 length-pickAt m f i (suc n) = by-test (m i) (λ k. simp (k, length-pickAt m f (suc i) n)) (λ k. simp (k, length-pickAt m f (suc i) n))
-
-pub length-countUp : (n k : ℕ) → length (countUp n k) ≡ k
-unfolding countUp
-length-countUp n zero = refl
-length-countUp n (suc k) = ap suc (length-countUp (suc n) k)
-
-pub getD-countUp : (n k j : ℕ) → j < k → getD (countUp n k) j 0 ≡ suc (n + j)
-unfolding countUp
-getD-countUp n zero j h = absurd (omega arith)
-getD-countUp n (suc k) zero h = let e : n ≡ n + 0 = omega arith in ap suc e
-getD-countUp n (suc k) (suc j) h = let e : suc n + j ≡ n + suc j = omega arith in getD-countUp (suc n) k j (omega arith) ∙ ap suc e
 
 -- ---- what is left
 

@@ -1,17 +1,13 @@
 -- Laws of this crate's proofs that belong to no one function.
 pub mod Records
-pub mod Groups
 pub mod Filtered
 pub mod Stairs
 pub mod Counts
 pub mod Steps
-pub mod Stores
 pub mod Writing
 pub mod Leaving
 pub mod Retained
-pub mod Parts
 pub mod Picks
-pub mod Checked
 pub mod Alone
 pub mod Scan
 pub mod Answers
@@ -21,8 +17,5 @@ pub mod Copies
 pub mod Spots
 pub mod Running
 pub mod Whole
-pub mod Spans
 pub mod Parting
-pub mod Sliced
 pub mod Weaving
-pub mod Lending

@@ -13,10 +13,11 @@ use Rattle.laws.proofs.Tests.{by-test}
 use Rattle.retain.specs.declared.Keep.the-variants.{Open, Shut}
 use Rattle.retain.specs.Frontier.{isOpen}
 use Rattle.retain.specs.Keep.{timeKept}
-use Rattle.retain.specs.Layers.{bit, countKept, listKept, hasDiff, EndsStep, AllDiffs, RisesTo}
-use Rattle.retain.proofs.Counts.{start-below, start-as, start-next, start-counts, list-left}
+use Rattle.retain.specs.Layers.{bit, hasDiff, EndsStep, AllDiffs}
+use Rattle.laws.specs.Picked.{countKept, listKept, RisesTo}
+use Rattle.laws.proofs.Ends.{start-below, start-as, ends-up}
+use Rattle.retain.proofs.Counts.{start-next, start-counts, list-left}
 use Rattle.retain.proofs.Steps.{count-diffs, count-open, count-shut, start-before}
-use Rattle.retain.proofs.Spans.{ends-up}
 
 -- a list that is there has an item, and ends within the items
 pub end-within : (ends : List ℕ) (n i lower : ℕ) → RisesTo ends n → i < length ends → lower ≡ startOf ends i → (lower < getD ends i 0) × (getD ends i 0 ≤ n)

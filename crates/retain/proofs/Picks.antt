@@ -11,12 +11,13 @@ use Rattle.chunk.specs.Words.{wellFormed, entries, timeBody, diffEndBody}
 use Rattle.chunk.specs.Contents.{startOf}
 use Rattle.laws.proofs.Tests.{by-test, and-left, and-right}
 use Rattle.retain.specs.declared.Keep.the-variants.{All, Open, Shut}
-use Rattle.retain.specs.Layers.{pick, hasDiff}
+use Rattle.laws.specs.Picked.{pick}
+use Rattle.retain.specs.Layers.{hasDiff}
 use Rattle.retain.specs.Keep.{retainedOf}
 use Rattle.retain.specs.Frontier.{isOpen}
 use Rattle.retain.specs.Extract.{keptOf, shippedOf}
 use Rattle.retain.proofs.Filtered.{has-stands, next-start, next-ends, onto, cut-head, cut-tail}
-use Rattle.retain.proofs.Retained.{diffEnds-in, times-in}
+use Rattle.laws.proofs.Bodies.{diffEnds-in, times-in}
 
 module _ (leaf : ℕ → Bool) (all : List ℕ) where
   -- where every time passes, those that stand are picked
@@ -54,17 +55,17 @@ pick-times q all (e ∷ es) i d =
 module _ (w : List ℕ) (f : wellFormed w ≡ true) (corners : List ℕ) where
   pub retained-all : retainedOf All corners w ≡ keep stands (entries w)
   unfolding retainedOf
-  retained-all = picks-all (λ (i : ℕ). true) (diffEndBody w) (λ i. refl) (entries w) 0 0 (sym (diffEnds-in w f (λ i. true))) refl
+  retained-all = picks-all (λ (i : ℕ). true) (diffEndBody w) (λ i. refl) (entries w) 0 0 (sym (diffEnds-in w f)) refl
 
   module _ (v : every stands (entries w) ≡ true) where
     pub retained-open : retainedOf Open corners w ≡ keptOf corners (entries w)
     unfolding retainedOf keptOf
     retained-open =
-        picks-settled (λ (i : ℕ). isOpen corners (getD (timeBody w) i 0)) (diffEndBody w) (entries w) 0 0 v (sym (diffEnds-in w f (λ i. true))) refl
-        ∙ pick-times (isOpen corners) (timeBody w) (entries w) 0 (sym (times-in w f (λ i. true)))
+        picks-settled (λ (i : ℕ). isOpen corners (getD (timeBody w) i 0)) (diffEndBody w) (entries w) 0 0 v (sym (diffEnds-in w f)) refl
+        ∙ pick-times (isOpen corners) (timeBody w) (entries w) 0 (sym (times-in w f))
 
     pub retained-shut : retainedOf Shut corners w ≡ shippedOf corners (entries w)
     unfolding retainedOf shippedOf
     retained-shut =
-        picks-settled (λ (i : ℕ). not (isOpen corners (getD (timeBody w) i 0))) (diffEndBody w) (entries w) 0 0 v (sym (diffEnds-in w f (λ i. true))) refl
-        ∙ pick-times (λ (t : ℕ). not (isOpen corners t)) (timeBody w) (entries w) 0 (sym (times-in w f (λ i. true)))
+        picks-settled (λ (i : ℕ). not (isOpen corners (getD (timeBody w) i 0))) (diffEndBody w) (entries w) 0 0 v (sym (diffEnds-in w f)) refl
+        ∙ pick-times (λ (t : ℕ). not (isOpen corners t)) (timeBody w) (entries w) 0 (sym (times-in w f))

@@ -4,55 +4,34 @@ use mathlib.Core.Path.{_≡_, refl, sym, _∙_, ap}
 use mathlib.Core.Bool.{Bool, true, _&&_, _||_}
 use mathlib.Core.List.{List, [], _∷_, _++_, map, append-assoc}
 use native.Mathlib.Omega.{arith}
-use lib.Dec.{ltb, eqb}
+use lib.Dec.{eqb}
 use lib.ListN.{length, length-map, getD}
 use Rattle.chunk.specs.Entry.{Entry, every, rising, stands, keep}
 use Rattle.chunk.specs.Bodies.{keys, vals, times, diffs, valEnds, timeEnds, diffEnds, chunkOf}
-use Rattle.chunk.specs.Words.{wellFormed, settled, entries, keyBody, valEndBody, valBody, timeEndBody, timeBody, diffEndBody, diffBody, nk, nv, nt, nd, limit, tableSize, endsRise, endsStep, risesFrom, size, over}
+use Rattle.chunk.specs.Words.{wellFormed, settled, entries, keyBody, valEndBody, valBody, timeEndBody, timeBody, diffEndBody, diffBody, nk, nv, nt, nd, limit, tableSize, endsStep, size, over}
 use Rattle.chunk.specs.declared.Contents.{Contents}
 use Rattle.chunk.specs.Contents.{startOf, tableOf, contentsOf, Placed}
-use Rattle.chunk.proofs.Placed.{placed, cut-keys, cut-val-ends, cut-vals, cut-time-ends, cut-times, cut-diff-ends, cut-diffs, length-keys, length-val-ends, length-vals, length-time-ends, length-times, length-diff-ends, length-diffs}
+use Rattle.chunk.proofs.Placed.{cut-keys, cut-val-ends, cut-vals, cut-time-ends, cut-times, cut-diff-ends, cut-diffs, length-keys, length-val-ends, length-vals, length-time-ends, length-times, length-diff-ends, length-diffs}
 use borrow.Author.Tests.{ltb-true, eqb-true, leb-true}
-use Rattle.laws.proofs.Tests.{by-test, and-left, and-right, and-both}
-use Rattle.laws.proofs.OneChunk.{front-is-chunk, bodies-in}
-use Rattle.laws.proofs.Layers.{Seven}
+use Rattle.laws.proofs.Tests.{by-test, and-left, and-right}
+use Rattle.laws.proofs.OneChunk.{front-is-chunk}
 use Rattle.laws.proofs.Frame.{parts}
-use Rattle.retain.specs.Layers.{countKept, pick, pickAt, countUp, nodes, itemOf, endOf, listKept, hasDiff, nodesOut, leavesOut, EndsWithin, EndsStep, AllDiffs, RisesTo, ListsLeft, Bodies, Left, layersOut}
+use Rattle.laws.specs.Picked.{countKept, pick, countUp, nodes, itemOf, endOf, listKept, RisesTo}
+use Rattle.retain.specs.Layers.{pickAt, hasDiff, nodesOut, leavesOut, EndsWithin, EndsStep, AllDiffs, ListsLeft, Bodies, Left, layersOut}
 use Rattle.retain.specs.declared.Keep.{Keep}
 use Rattle.retain.specs.declared.Keep.the-variants.{All}
-use Rattle.retain.specs.Ranges.{part}
 use Rattle.retain.specs.Keep.{keepsAt, timeKept, retainedOf, ListsOf}
-use Rattle.retain.proofs.Filtered.{picked-keys, picked-valEnds, picked-vals, picked-timeEnds, pickAt-list, pickAt-diffs, picked-stands, length-pick, diffEnds-up, keep-all, nodes-pick, picked-few}
-use Rattle.retain.proofs.Counts.{count-most, start-as}
+use Rattle.laws.proofs.Picked.{picked-keys, picked-valEnds, picked-vals, picked-timeEnds, diffEnds-up, keep-all, nodes-pick}
+use Rattle.retain.proofs.Filtered.{pickAt-list, pickAt-diffs, picked-stands, length-pick, picked-few}
+use Rattle.retain.proofs.Counts.{count-most}
+use Rattle.chunk.proofs.Falling.{capped}
+use Rattle.laws.proofs.Ends.{start-as, rise-last}
+use Rattle.laws.proofs.Bodies.{keys-in, valEnds-in, vals-in, timeEnds-in, times-in, diffEnds-in, diffs-in, its-place, val-rows, time-rows, over-vals, over-times, keyPart, valEndPart, valPart, timeEndPart, timePart, diffEndPart, diffPart}
 use Rattle.retain.proofs.Steps.{count-diffs, count-full}
 
 -- a layer's nodes are as many as its lists that have an item left
 pub nodes-count : (m : ℕ → Bool) (items ends : List ℕ) → length items ≡ length ends → length (nodes m itemOf 0 0 items ends) ≡ countKept (listKept m ends) 0 (length items)
 nodes-count m items ends h = ap length (nodes-pick m ends items ends 0 0 0 refl refl h) ∙ length-pick (listKept m ends) 0 items
-
--- ends that rise to the last one rise
-rise-rises : (low : ℕ) (ends : List ℕ) (top : ℕ) → endsRise low ends top ≡ true → risesFrom low ends ≡ true
-unfolding endsRise risesFrom
-rise-rises low [] top h = refl
-rise-rises low (e ∷ ends) top h = and-both (ltb low e) _ (and-left _ _ h) (rise-rises e ends top (and-right (ltb low e) _ h))
-
--- ends that rise to the last one are no more than it
-rise-count : (low : ℕ) (ends : List ℕ) (top : ℕ) → endsRise low ends top ≡ true → low + length ends ≤ top
-unfolding endsRise
-rise-count low [] top h = let e : low ≡ top = eqb-true _ _ h in omega arith
-rise-count low (e ∷ ends) top h =
-    let i : e + length ends ≤ top = rise-count e ends top (and-right (ltb low e) _ h) in
-    let l : low < e = ltb-true _ _ (and-left _ _ h) in omega arith
-
--- and end with it
-last-end : (low : ℕ) (ends : List ℕ) (top : ℕ) → endsRise low ends top ≡ true → getD (low ∷ ends) (length ends) 0 ≡ top
-unfolding endsRise
-last-end low [] top h = eqb-true _ _ h
-last-end low (e ∷ ends) top h = last-end e ends top (and-right (ltb low e) _ h)
-
-pub rise-last : (ends : List ℕ) (top : ℕ) → endsRise 0 ends top ≡ true → startOf ends (length ends) ≡ top
-rise-last [] top h = last-end 0 [] top h
-rise-last (e ∷ ends) top h = last-end 0 (e ∷ ends) top h
 
 -- ends that step up to the last one are at most it
 step-low : (low : ℕ) (ends : List ℕ) (top : ℕ) → endsStep low ends top ≡ true → low ≤ top
@@ -110,52 +89,31 @@ module _ (w : List ℕ) (f : wellFormed w ≡ true) (leaf : ℕ → Bool) where
   abbrev fs : List Entry
   fs = pick timeStays 0 es
 
-  pub keys-in : keys es ≡ keyBody w
-  keys-in = ap (λ (s : Seven). s .keyList) (bodies-in w f)
-
-  pub valEnds-in : valEnds es ≡ valEndBody w
-  valEnds-in = ap (λ (s : Seven). s .valEndList) (bodies-in w f)
-
-  pub vals-in : vals es ≡ valBody w
-  vals-in = ap (λ (s : Seven). s .valList) (bodies-in w f)
-
-  pub timeEnds-in : timeEnds es ≡ timeEndBody w
-  timeEnds-in = ap (λ (s : Seven). s .timeEndList) (bodies-in w f)
-
-  pub times-in : times es ≡ timeBody w
-  times-in = ap (λ (s : Seven). s .timeList) (bodies-in w f)
-
-  pub diffEnds-in : diffEnds es ≡ diffEndBody w
-  diffEnds-in = ap (λ (s : Seven). s .diffEndList) (bodies-in w f)
-
-  pub diffs-in : diffs es ≡ diffBody w
-  diffs-in = ap (λ (s : Seven). s .diffList) (bodies-in w f)
-
   rise : rising es ≡ true
   rise = front-is-chunk w f .rise
 
   out-keys : keys fs ≡ nodes valueStays itemOf 0 0 (keyBody w) (valEndBody w)
-  out-keys = picked-keys timeStays es rise ∙ simp (keys-in, valEnds-in, timeEnds-in)
+  out-keys = picked-keys timeStays es rise ∙ simp (keys-in w f, valEnds-in w f, timeEnds-in w f)
 
   out-valEnds : valEnds fs ≡ nodes valueStays endOf 0 0 (keyBody w) (valEndBody w)
-  out-valEnds = picked-valEnds timeStays es rise ∙ simp (keys-in, valEnds-in, timeEnds-in)
+  out-valEnds = picked-valEnds timeStays es rise ∙ simp (keys-in w f, valEnds-in w f, timeEnds-in w f)
 
   out-vals : vals fs ≡ nodes timeStays itemOf 0 0 (valBody w) (timeEndBody w)
-  out-vals = picked-vals timeStays es rise ∙ simp (vals-in, timeEnds-in)
+  out-vals = picked-vals timeStays es rise ∙ simp (vals-in w f, timeEnds-in w f)
 
   out-timeEnds : timeEnds fs ≡ nodes timeStays endOf 0 0 (valBody w) (timeEndBody w)
-  out-timeEnds = picked-timeEnds timeStays es rise ∙ simp (vals-in, timeEnds-in)
+  out-timeEnds = picked-timeEnds timeStays es rise ∙ simp (vals-in w f, timeEnds-in w f)
 
   pub count-times : length es ≡ length (timeBody w)
-  count-times = sym (length-map es (λ (e : Entry). e .time)) ∙ ap length times-in
+  count-times = sym (length-map es (λ (e : Entry). e .time)) ∙ ap length (times-in w f)
 
   out-times : times fs ≡ pickAt timeStays (λ (t : ℕ). getD (timeBody w) t 0) 0 (length (timeBody w))
   out-times =
-      sym (pickAt-list timeStays (timeBody w) (λ (e : Entry). e .time) es 0 (sym times-in))
+      sym (pickAt-list timeStays (timeBody w) (λ (e : Entry). e .time) es 0 (sym (times-in w f)))
       ∙ ap (λ (n : ℕ). pickAt timeStays (λ (t : ℕ). getD (timeBody w) t 0) 0 n) count-times
 
   stand : every stands fs ≡ true
-  stand = picked-stands leaf (diffEndBody w) es 0 0 (sym diffEnds-in) refl
+  stand = picked-stands leaf (diffEndBody w) es 0 0 (sym (diffEnds-in w f)) refl
 
   pub out-count : length fs ≡ countKept timeStays 0 (length (timeBody w))
   out-count = length-pick timeStays 0 es ∙ ap (λ (n : ℕ). countKept timeStays 0 n) count-times
@@ -166,17 +124,8 @@ module _ (w : List ℕ) (f : wellFormed w ≡ true) (leaf : ℕ → Bool) where
   out-diffs : diffs fs ≡ pickAt timeStays (λ (t : ℕ). getD (diffBody w) (startOf (diffEndBody w) t) 0) 0 (length (timeBody w))
   out-diffs =
       ap (map (λ (e : Entry). e .diff)) (keep-all stands fs stand)
-      ∙ sym (pickAt-diffs leaf (diffEndBody w) (diffBody w) es 0 0 (sym diffEnds-in) refl (sym diffs-in))
+      ∙ sym (pickAt-diffs leaf (diffEndBody w) (diffBody w) es 0 0 (sym (diffEnds-in w f)) refl (sym (diffs-in w f)))
       ∙ ap (λ (n : ℕ). pickAt timeStays (λ (t : ℕ). getD (diffBody w) (startOf (diffEndBody w) t) 0) 0 n) count-times
-
-  its-place : Placed (contentsOf w) w
-  its-place = placed w (parts w f .tableFits)
-
-  val-rows : length (keyBody w) ≡ length (valEndBody w)
-  val-rows = length-keys (contentsOf w) w its-place ∙ sym (length-val-ends (contentsOf w) w its-place)
-
-  time-rows : length (valBody w) ≡ length (timeEndBody w)
-  time-rows = length-vals (contentsOf w) w its-place ∙ sym (length-time-ends (contentsOf w) w its-place)
 
   -- the words: the table, the keys and their ends, the values and theirs, the times, theirs and the diffs
   pub retained : chunkOf fs
@@ -184,58 +133,45 @@ module _ (w : List ℕ) (f : wellFormed w ≡ true) (leaf : ℕ → Bool) where
       ++ (nodesOut valueStays (keyBody w) (valEndBody w) ++ (nodesOut timeStays (valBody w) (timeEndBody w) ++ leavesOut timeStays (timeBody w) (diffEndBody w) (diffBody w)))
   unfolding chunkOf
   retained =
-      let k : length (keys fs) ≡ countKept keyStays 0 (length (keyBody w)) = ap length out-keys ∙ nodes-count valueStays (keyBody w) (valEndBody w) val-rows in
-      let v : length (vals fs) ≡ countKept valueStays 0 (length (valBody w)) = ap length out-vals ∙ nodes-count timeStays (valBody w) (timeEndBody w) time-rows in
+      let k : length (keys fs) ≡ countKept keyStays 0 (length (keyBody w)) = ap length out-keys ∙ nodes-count valueStays (keyBody w) (valEndBody w) (val-rows w f) in
+      let v : length (vals fs) ≡ countKept valueStays 0 (length (valBody w)) = ap length out-vals ∙ nodes-count timeStays (valBody w) (timeEndBody w) (time-rows w f) in
       let t : length (times fs) ≡ countKept timeStays 0 (length (timeBody w)) = length-map fs (λ (e : Entry). e .time) ∙ out-count in
       let d : length (diffs fs) ≡ countKept timeStays 0 (length (timeBody w)) = length-map (keep stands fs) (λ (e : Entry). e .diff) ∙ ap length (keep-all stands fs stand) ∙ out-count in
       simp (k, v, t, d) (simp (out-keys, out-valEnds, out-vals, out-timeEnds, out-times, out-diffEnds, out-diffs, append-assoc))
 
-  pub val-ends-rise : risesFrom 0 (valEndBody w) ≡ true
-  val-ends-rise = rise-rises 0 (valEndBody w) (nv w) (parts w f .valEndsRise)
-
-  pub time-ends-rise : risesFrom 0 (timeEndBody w) ≡ true
-  time-ends-rise = rise-rises 0 (timeEndBody w) (nt w) (parts w f .timeEndsRise)
-
   pub diffs-within : EndsWithin (diffEndBody w) (length (diffBody w))
   diffs-within i h =
       let s = step-most 0 (diffEndBody w) (nd w) i (parts w f .diffEndsStep) in
-      let l = length-diffs (contentsOf w) w its-place in
+      let l = length-diffs (contentsOf w) w (its-place w f) in
       let k : startOf (diffEndBody w) i < getD (diffEndBody w) i 0 = ltb-true _ _ h in
       omega arith
 
   pub its-bodies : Bodies (keyBody w) (valEndBody w) (valBody w) (timeEndBody w) (timeBody w) (diffEndBody w) (diffBody w)
   its-bodies =
       record {
-        overVals = record { rows = val-rows; rises = record { rise = val-ends-rise; last = rise-last (valEndBody w) (nv w) (parts w f .valEndsRise) ∙ sym (length-vals (contentsOf w) w its-place) } };
-        overTimes = record { rows = time-rows; rises = record { rise = time-ends-rise; last = rise-last (timeEndBody w) (nt w) (parts w f .timeEndsRise) ∙ sym (length-times (contentsOf w) w its-place) } };
-        timeRows = length-diff-ends (contentsOf w) w its-place ∙ sym (length-times (contentsOf w) w its-place);
+        overVals = over-vals w f;
+        overTimes = over-times w f;
+        timeRows = length-diff-ends (contentsOf w) w (its-place w f) ∙ sym (length-times (contentsOf w) w (its-place w f));
         diffsWithin = diffs-within;
         diffsStep = ends-step (diffEndBody w) (nd w) (parts w f .diffEndsStep);
       }
 
   -- as many entries stand as there are diffs
   pub stand-count : length (keep stands es) ≡ nd w
-  stand-count = sym (length-map (keep stands es) (λ (e : Entry). e .diff)) ∙ ap length diffs-in ∙ length-diffs (contentsOf w) w its-place
+  stand-count = sym (length-map (keep stands es) (λ (e : Entry). e .diff)) ∙ ap length (diffs-in w f) ∙ length-diffs (contentsOf w) w (its-place w f)
 
   few-times : countKept timeStays 0 (length (timeBody w)) ≤ nd w
   few-times =
-      let a : length fs ≤ length (keep stands es) = picked-few leaf (diffEndBody w) es 0 0 (sym diffEnds-in) refl in
+      let a : length fs ≤ length (keep stands es) = picked-few leaf (diffEndBody w) es 0 0 (sym (diffEnds-in w f)) refl in
       let b = stand-count in
       let d = out-count in omega arith
 
   -- the lists and items counted are those of the bodies
   its-keys : (k v : ℕ) → ListsLeft valueStays (valEndBody w) k v → k ≡ countKept keyStays 0 (length (keyBody w))
-  its-keys k v l = l .lists ∙ ap (countKept keyStays 0) (sym val-rows)
+  its-keys k v l = l .lists ∙ ap (countKept keyStays 0) (sym (val-rows w f))
 
   its-vals : (k v : ℕ) → ListsLeft valueStays (valEndBody w) k v → v ≡ countKept valueStays 0 (length (valBody w))
-  its-vals k v l = l .items ∙ ap (countKept valueStays 0) (rise-last (valEndBody w) (nv w) (parts w f .valEndsRise) ∙ sym (length-vals (contentsOf w) w its-place))
-
-  -- no more keys than values, and no more values than times
-  pub keys-few : nk w ≤ nv w
-  keys-few = let a = rise-count 0 (valEndBody w) (nv w) (parts w f .valEndsRise) in let b = length-val-ends (contentsOf w) w its-place in omega arith
-
-  pub vals-few : nv w ≤ nt w
-  vals-few = let a = rise-count 0 (timeEndBody w) (nt w) (parts w f .timeEndsRise) in let b = length-time-ends (contentsOf w) w its-place in omega arith
+  its-vals k v l = l .items ∙ ap (countKept valueStays 0) (rise-last (valEndBody w) (nv w) (parts w f .valEndsRise) ∙ sym (length-vals (contentsOf w) w (its-place w f)))
 
   pub its-left : (k v t room : ℕ) → ListsLeft valueStays (valEndBody w) k v → t ≡ length fs → size w ≤ room
       → Left timeStays (keyBody w) (valEndBody w) (valBody w) (timeEndBody w) (timeBody w) k v t × (tableSize + 2 * k + 2 * v + 2 * t + t ≤ room)
@@ -246,18 +182,18 @@ module _ (w : List ℕ) (f : wellFormed w ≡ true) (leaf : ℕ → Bool) where
       let mk = count-most keyStays 0 (length (keyBody w)) in
       let mv = count-most valueStays 0 (length (valBody w)) in
       let mt = count-most timeStays 0 (length (timeBody w)) in
-      let lk = length-keys (contentsOf w) w its-place in
-      let lv = length-vals (contentsOf w) w its-place in
-      let lt = length-times (contentsOf w) w its-place in
-      let lke = length-val-ends (contentsOf w) w its-place in
-      let lve = length-time-ends (contentsOf w) w its-place in
-      let bk = rise-count 0 (valEndBody w) (nv w) (parts w f .valEndsRise) in
-      let bv = rise-count 0 (timeEndBody w) (nt w) (parts w f .timeEndsRise) in
+      let lk = length-keys (contentsOf w) w (its-place w f) in
+      let lv = length-vals (contentsOf w) w (its-place w f) in
+      let lt = length-times (contentsOf w) w (its-place w f) in
+      let lke = length-val-ends (contentsOf w) w (its-place w f) in
+      let lve = length-time-ends (contentsOf w) w (its-place w f) in
+      let bk = capped 0 (nv w) (valEndBody w) (parts w f .valEndsRise) in
+      let bv = capped 0 (nt w) (timeEndBody w) (parts w f .timeEndsRise) in
       let bt : nt w ≤ limit = leb-true _ _ (parts w f .few) in
       let bd = few-times in (
         record {
-          keysLeft = gk ∙ sym (nodes-count valueStays (keyBody w) (valEndBody w) val-rows);
-          valsLeft = gv ∙ sym (nodes-count timeStays (valBody w) (timeEndBody w) time-rows);
+          keysLeft = gk ∙ sym (nodes-count valueStays (keyBody w) (valEndBody w) (val-rows w f));
+          valsLeft = gv ∙ sym (nodes-count timeStays (valBody w) (timeEndBody w) (time-rows w f));
           timesLeft = gt;
           fewKeys = omega arith;
           fewVals = omega arith;
@@ -287,28 +223,6 @@ pub rises-as : (ends : List ℕ) (n m : ℕ) → RisesTo ends n → n ≡ m → 
 rises-as ends n m r e = record { rise = r .rise; last = r .last ∙ e }
 
 -- ---- the same of the parts that are cut out
-
-module _ (found : Contents) (w : List ℕ) where
-  abbrev pub keyPart : List ℕ
-  keyPart = part (found .«keys_at») (found .«val_ends_at») w
-
-  abbrev pub valEndPart : List ℕ
-  valEndPart = part (found .«val_ends_at») (found .«vals_at») w
-
-  abbrev pub valPart : List ℕ
-  valPart = part (found .«vals_at») (found .«time_ends_at») w
-
-  abbrev pub timeEndPart : List ℕ
-  timeEndPart = part (found .«time_ends_at») (found .«times_at») w
-
-  abbrev pub timePart : List ℕ
-  timePart = part (found .«times_at») (found .«diff_ends_at») w
-
-  abbrev pub diffEndPart : List ℕ
-  diffEndPart = part (found .«diff_ends_at») (found .«diffs_at») w
-
-  abbrev pub diffPart : List ℕ
-  diffPart = part (found .«diffs_at») (found .size) w
 
 module _ (w : List ℕ) (f : wellFormed w ≡ true) (found : Contents) (p : Placed found w) where
   pub cut-bodies : Bodies (keyPart found w) (valEndPart found w) (valPart found w) (timeEndPart found w) (timePart found w) (diffEndPart found w) (diffPart found w)

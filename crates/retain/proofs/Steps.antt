@@ -14,7 +14,8 @@ use Rattle.laws.proofs.Tests.{by-test}
 use Rattle.retain.specs.declared.Keep.the-variants.{Open, Shut}
 use Rattle.retain.specs.Frontier.{isOpen}
 use Rattle.retain.specs.Keep.{timeKept}
-use Rattle.retain.specs.Layers.{bit, countKept, hasDiff, EndsStep}
+use Rattle.retain.specs.Layers.{bit, hasDiff, EndsStep}
+use Rattle.laws.specs.Picked.{countKept}
 use Rattle.retain.proofs.Counts.{count-most}
 
 -- the same test, the same count

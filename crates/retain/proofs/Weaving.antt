@@ -8,12 +8,13 @@ use lib.Dec.{ltb}
 use lib.ListN.{length, getD, set, take, drop, length-set, length-drop, length-append, take-append-drop}
 use lib.Seq.{sets, take-take, drop-drop, take-add, take-set-le, take-set-lt, drop-set-lt, drop-set-add, drop-at, length-take-le}
 use Rattle.chunk.specs.Contents.{startOf}
-use Rattle.retain.specs.Layers.{countKept, countUp, nodesOut, leavesOut, listKept, bit, Over, Bodies, Left, bodiesOut}
+use Rattle.laws.specs.Picked.{countKept, countUp, listKept, Over}
+use Rattle.retain.specs.Layers.{nodesOut, leavesOut, bit, Bodies, Left, bodiesOut}
 use Rattle.retain.specs.Onward.{Writing, Leaving, Woven}
 use Rattle.retain.proofs.Writing.{writing-start, writing-next, writing-past, writing-left, writing-within, writing-end, next-above, silent, length-nodesOut}
 use Rattle.retain.proofs.Leaving.{count-from, leaving-start, leaving-more, leaving-end, length-leavesOut}
 use Rattle.retain.proofs.Parting.{end-within}
-use Rattle.retain.proofs.Stores.{sets-past}
+use Rattle.laws.proofs.Stores.{sets-past}
 
 -- ---- parts of an output
 

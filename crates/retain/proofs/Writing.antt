@@ -13,12 +13,13 @@ use Rattle.chunk.specs.Words.{risesFrom}
 use Rattle.chunk.specs.Contents.{startOf}
 use Rattle.laws.proofs.Lists.{no-length}
 use Rattle.laws.proofs.Tests.{by-test, and-left, and-right}
-use Rattle.retain.specs.Layers.{countKept, nodes, itemOf, endOf, nodesOut, listKept, bit}
+use Rattle.laws.specs.Picked.{countKept, nodes, itemOf, endOf, listKept, pick}
+use Rattle.retain.specs.Layers.{nodesOut, bit}
 use Rattle.retain.specs.Onward.{nodesFrom, Writing}
 use Rattle.retain.proofs.Counts.{count-most, count-none, count-add}
-use Rattle.retain.specs.Layers.{pick}
-use Rattle.retain.proofs.Filtered.{nodes-pick, length-pick}
-use Rattle.retain.proofs.Stores.{set-sets, set-over, fill-two}
+use Rattle.laws.proofs.Picked.{nodes-pick}
+use Rattle.retain.proofs.Filtered.{length-pick}
+use Rattle.laws.proofs.Stores.{set-sets, set-over, fill-two}
 
 -- as many items as ends
 nodes-lengths : {A B C : Type 0} (m : ℕ → Bool) (g : A → ℕ → B) (h : A → ℕ → C) (i c : ℕ) (xs : List A) (ends : List ℕ)

@@ -1,14 +1,11 @@
--- Filter and split (document 01): the entries that stay.
+-- Filter (document 01): the entries that stay.
 use Prim.Native.Nat.{ℕ}
-use mathlib.Core.Path.{_≡_}
 use mathlib.Core.List.{List, [], _∷_}
 use lib.Dec.{ltb}
-use lib.ListN.{length, take, drop}
+use lib.ListN.{length}
 use Rattle.chunk.specs.Entry.{Entry, stands, keep}
 use Rattle.chunk.specs.Words.{entries, size}
-use Rattle.chunk.specs.Refusal.{first, refuse, malformed, unsettled, written}
-
--- ---- filter_zero
+use Rattle.chunk.specs.Refusal.{first, refuse, malformed, written}
 
 -- the entries with a change
 abbrev pub filtered : List Entry → List Entry
@@ -23,27 +20,3 @@ filterNumber w out = first (malformed w ∷ refuse 13 (ltb (length out) (size w)
 unfoldable pub filterOut : List ℕ → List ℕ → List ℕ
 unfolding filterNumber written keep entries
 filterOut w out = written (filterNumber w out) (filtered (entries w)) out
-
--- ---- split_at
-
--- the number that split answers
-unfoldable pub splitNumber : List ℕ → List ℕ → List ℕ → ℕ
-unfolding first
-splitNumber w one two =
-    first (malformed w ∷ unsettled w ∷ refuse 13 (ltb (length one) (size w)) ∷ refuse 13 (ltb (length two) (size w)) ∷ [])
-
--- what its first output holds afterwards: the first n records
-unfoldable pub splitFirst : List ℕ → ℕ → List ℕ → List ℕ → List ℕ
-unfolding splitNumber written entries
-splitFirst w n one two = written (splitNumber w one two) (take n (entries w)) one
-
--- and its second: the rest
-unfoldable pub splitRest : List ℕ → ℕ → List ℕ → List ℕ → List ℕ
-unfolding splitNumber written entries
-splitRest w n one two = written (splitNumber w one two) (drop n (entries w)) two
-
--- the whole answer of a split: its number, and both outputs afterwards
-pub record Split (r : ℕ) (oneAfter twoAfter w : List ℕ) (n : ℕ) (one two : List ℕ) : Type 0 where
-  pub number : r ≡ splitNumber w one two
-  pub first : oneAfter ≡ splitFirst w n one two
-  pub rest : twoAfter ≡ splitRest w n one two

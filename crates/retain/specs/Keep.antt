@@ -9,7 +9,8 @@ use Rattle.chunk.specs.Words.{entries, valEndBody, timeEndBody, timeBody, diffE
 use Rattle.retain.specs.declared.Keep.{Keep}
 use Rattle.retain.specs.declared.Keep.the-variants.{All, Open, Shut}
 use Rattle.retain.specs.Frontier.{isOpen}
-use Rattle.retain.specs.Layers.{hasDiff, listKept, ListsLeft, pick}
+use Rattle.retain.specs.Layers.{hasDiff, ListsLeft}
+use Rattle.laws.specs.Picked.{listKept, pick}
 
 -- whether time i stays, if it has a diff
 abbrev pub keepsAt : Keep → List ℕ → List ℕ → ℕ → Bool

@@ -7,4 +7,3 @@ pub mod Keep
 pub mod Found
 pub mod Answer
 pub mod Records
-pub mod Ranges

@@ -7,7 +7,8 @@ use lib.ListN.{length, getD, take, drop}
 use lib.Seq.{sets}
 use Rattle.chunk.specs.Words.{risesFrom}
 use Rattle.chunk.specs.Contents.{startOf}
-use Rattle.retain.specs.Layers.{countKept, pickAt, countUp, nodes, itemOf, endOf, nodesOut, leavesOut}
+use Rattle.laws.specs.Picked.{countKept, countUp, nodes, itemOf, endOf}
+use Rattle.retain.specs.Layers.{pickAt, nodesOut, leavesOut}
 
 -- what is left to say of the lists from i on
 abbrev pub nodesFrom : {B : Type 0} → (ℕ → Bool) → List ℕ → List ℕ → (ℕ → ℕ → B) → ℕ → ℕ → ℕ → List B

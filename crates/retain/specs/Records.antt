@@ -1,12 +1,12 @@
--- What cutting does to a chunk's records (document 01: "First n records, and the rest"; "Open records are kept, the others shipped";
+-- What an extract does to a chunk's records (document 01: "Open records are kept, the others shipped";
 -- the frontier has "those with no different kept time at or below them in both coordinates").
 -- Each statement is a type here, and a theorem under the same words in `proofs/`.
 use Prim.Native.Nat.{ℕ, _+_}
 use mathlib.Core.Path.{_≡_}
 use mathlib.Core.Bool.{Bool, true, not, _||_}
-use mathlib.Core.List.{List, _++_}
+use mathlib.Core.List.{List}
 use lib.Dec.{eqb}
-use lib.ListN.{length, take, drop}
+use lib.ListN.{length}
 use Rattle.chunk.specs.Entry.{Entry, keep, every}
 use Rattle.chunk.specs.Time.{atOrBelow}
 use Rattle.retain.specs.Frontier.{isOpen, leastOf}
@@ -17,10 +17,6 @@ abbrev pub EachOnce : Type 0
 EachOnce =
     (corners : List ℕ) (es : List Entry) (q : Entry → Bool)
     → length (keep q (keptOf corners es)) + length (keep q (shippedOf corners es)) ≡ length (keep q es)
-
--- splitting and putting together again gives the records back
-abbrev pub SplitJoins : Type 0
-SplitJoins = (n : ℕ) (es : List Entry) → take n es ++ drop n es ≡ es
 
 -- no corner is at or below another
 abbrev pub CornersApart : Type 0

@@ -6,11 +6,11 @@ ghost use Prim.Native.Nat.{ℕ, _+_, _≤_, _<_};
 ghost use lib.ListN.{length, take, drop};
 ghost use Rattle.retain.specs.Frontier.{ordered};
 ghost use Rattle.retain.specs.Keep.{timeKept};
-ghost use Rattle.retain.specs.Layers.{EndsWithin, Ready, Over, Bodies, Left, bodiesOut};
+ghost use Rattle.retain.specs.Layers.{EndsWithin, Ready, Bodies, Left, bodiesOut};
+ghost use Rattle.laws.specs.Picked.{Over};
 ghost use Rattle.retain.specs.Onward.{Leaving, Woven};
 use crate::Keep;
 use crate::Reached;
-use crate::runs::count_up;
 use crate::stay::bit_of;
 use crate::stay::keeps;
 
@@ -171,5 +171,7 @@ pub(crate) fn write_layers(
         start = end;
         i += 1;
     }
-    count_up(nt, out, nk + nk + nv + nv + nt);
+    let ends_at = nk + nk + nv + nv + nt;
+    let diffs_at = ends_at + nt;
+    meld::count_up(&mut out[ends_at..diffs_at]);
 }

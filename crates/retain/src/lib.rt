@@ -13,17 +13,14 @@ ghost use Rattle.retain.specs.Layers.{Bodies, Left, layersOut};
 ghost use Rattle.chunk.specs.Words.{wellFormed, settled, size, tableSize, over, entries};
 ghost use Rattle.chunk.specs.Contents.{Placed};
 ghost use Rattle.chunk.specs.Bodies.{chunkOf};
-ghost use Rattle.retain.specs.Cut.{filterNumber, filterOut, Split};
+ghost use Rattle.retain.specs.Cut.{filterNumber, filterOut};
 use chunk::Contents;
-use chunk::Range;
 use climb::add_corner;
 use layers::write_layers;
 use look::count_open;
 use look::in_order;
 use look::open_bit;
 use one_by_one::scan_corners;
-use ranges::retain_cut;
-use runs::copy;
 use sides::both_of;
 use stay::lists_of;
 
@@ -31,8 +28,6 @@ mod climb;
 mod layers;
 mod look;
 mod one_by_one;
-mod ranges;
-mod runs;
 mod sides;
 mod stay;
 
@@ -157,7 +152,7 @@ fn retain_standing(words: &[u64], found: Contents, out: &mut [u64])
     let all = found.nt;
     let nd = found.nd;
     if nd == all {
-        copy(&words[..size], out, 0);
+        meld::copy_into(out, &words[..size]);
         return;
     }
     if nd == 0 {
@@ -185,54 +180,6 @@ pub fn filter_zero(words: &[u64], out: &mut [u64]) -> u64
         return 13;
     }
     retain_standing(words, found, out);
-    0
-}
-
-// Split: the first n records, and the rest, one output each. 5 where the chunk isn't well formed, 6 where it isn't settled, 13 where an output is short.
-pub fn split_at(words: &[u64], n: u64, first: &mut [u64], rest: &mut [u64]) -> u64
-    ensures { λ r. ⌜ Split r (now (first .exit)) (now (rest .exit)) (now (words .entry)) n (now (first .entry)) (now (rest .entry)) ⌝ }
-{
-    let checked = chunk::check(words);
-    let number = checked.number;
-    if number != 0 {
-        return 5;
-    }
-    let settled = checked.settled;
-    if !settled {
-        return 6;
-    }
-    let found = checked.contents;
-    let size = found.size;
-    if first.len() < size {
-        return 13;
-    }
-    if rest.len() < size {
-        return 13;
-    }
-    let at = n as usize;
-    let all = found.nt;
-    let mut cut = at;
-    if all < at {
-        cut = all;
-    }
-    retain_cut(
-        words,
-        found,
-        Range {
-            lower: 0,
-            upper: cut,
-        },
-        first,
-    );
-    retain_cut(
-        words,
-        found,
-        Range {
-            lower: cut,
-            upper: all,
-        },
-        rest,
-    );
     0
 }
 
@@ -401,13 +348,13 @@ fn retain_both(
     let size = found.size;
     let all = found.nt;
     if open == all {
-        copy(&words[..size], kept, 0);
+        meld::copy_into(kept, &words[..size]);
         chunk::write_table(shipped, 0, 0, 0, 0);
         return;
     }
     if open == 0 {
         chunk::write_table(kept, 0, 0, 0, 0);
-        copy(&words[..size], shipped, 0);
+        meld::copy_into(shipped, &words[..size]);
         return;
     }
     let left = both_of(words, found, corners);

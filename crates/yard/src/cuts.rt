@@ -104,7 +104,7 @@ fn short_filter(m: &[u64]) {
 fn split(words: &[u64], n: u64, first: [u64; 64], rest: [u64; 64]) -> bool {
     let mut one = [5; 64];
     let mut two = [5; 64];
-    let got = retain::split_at(words, n, &mut one[0..26], &mut two[0..26]);
+    let got = split::split_at(words, n, &mut one[0..26], &mut two[0..26]);
     if got != 0 {
         return false;
     }

@@ -5,7 +5,8 @@ use borrow.Author.Needs.{needs}
 use lib.ListN.{length, getD}
 use denote.Ref.{now}
 use Rattle.reports.proofs.Moving.{reading}
-use Rattle.merge.proofs.Layering.{Lending, lending, keys-room, KeysDone, keys-done, vals-room, ValsDone, vals-done, vals-past, times-room, times-done, times-length}
+use Rattle.laws.proofs.Lending.{Lending, lending}
+use Rattle.merge.proofs.Layering.{its-places, keys-room, KeysDone, keys-done, vals-room, ValsDone, vals-done, vals-past, times-room, times-done, times-length}
 use Rattle.merge.proofs.survey_layers.Statement.{statement}
 use Rattle.merge.proofs.survey_layers.Tie as tie
 use Rattle.merge.proofs.survey_layers.Reads as reads
@@ -14,10 +15,10 @@ use Rattle.merge.proofs.survey.Reads as survey-reads
 use Rattle.merge.proofs.survey_pair.Reads as survey-pair-reads
 
 first : (t : tie.Start) → Lending (t .args .words0 .now) (t .args .found0)
-first t = lending _ _ (t .pre .first) (omega (arith, t .good .0))
+first t = lending _ _ (its-places _ _ (t .pre .first)) (omega (arith, t .good .0))
 
 second : (t : tie.Start) → Lending (t .args .words1 .now) (t .args .found1)
-second t = lending _ _ (t .pre .second) (omega (arith, t .good .1 .1 .0))
+second t = lending _ _ (its-places _ _ (t .pre .second)) (omega (arith, t .good .1 .1 .0))
 
 -- the keys' survey stands
 keys-at : (c : tie.After-survey-pair) → KeysDone _ _ _ _ _ (c .before .before .before .before .before .before .before .pre) (c .survey-pair .last .1 .1 .1 .1 .1 .1 .0) (c .survey-pair .result)

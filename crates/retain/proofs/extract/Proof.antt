@@ -14,7 +14,7 @@ use Rattle.retain.specs.declared.Extracted.{Extracted}
 use Rattle.retain.specs.Frontier.{sound, ordered, most}
 use Rattle.retain.specs.Extract.{extractNumber, keptOf, shippedOf, keptOut, shippedOut}
 use Rattle.retain.specs.Answer.{Extraction, Parted, refusedBy, extractedAs, tooMany}
-use Rattle.retain.proofs.Checked.{passed, failed}
+use Rattle.laws.proofs.Checked.{passed, failed}
 use borrow.Author.Needs.{needs}
 use Rattle.retain.proofs.extract.Statement.{statement}
 use Rattle.retain.proofs.extract.Tie as tie

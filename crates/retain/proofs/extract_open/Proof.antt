@@ -22,7 +22,7 @@ use Rattle.retain.specs.Keep.{retainedOf}
 use Rattle.retain.specs.Found.{cornersOf, keptBy}
 use Rattle.retain.proofs.Answers.{keep-times, lengths, too-many, taken}
 use Rattle.retain.proofs.Picks.{retained-open, retained-shut}
-use Rattle.retain.proofs.Retained.{times-in}
+use Rattle.laws.proofs.Bodies.{times-in}
 use borrow.Author.Needs.{needs}
 use Rattle.retain.proofs.extract_open.Statement.{statement}
 use Rattle.retain.proofs.extract_open.Tie as tie
@@ -35,7 +35,7 @@ module _ (found : Contents) (w : List ℕ) (p : Placed found w) (formed : wellFo
   stand = sym (settled-stands w formed) ∙ settles
 
   all-times : cutTimes ≡ times (entries w)
-  all-times = cut-times found w p ∙ sym (times-in w formed (λ i. true))
+  all-times = cut-times found w p ∙ sym (times-in w formed)
 
   kept-times : keep (isOpen corners) cutTimes ≡ times (keptOf corners (entries w))
   unfolding keptOf

@@ -11,7 +11,7 @@ use Rattle.chunk.specs.Bodies.{chunkOf}
 use Rattle.chunk.specs.Words.{wellFormed, entries, size, over}
 use Rattle.chunk.specs.Refusal.{first, written}
 use Rattle.retain.specs.Cut.{filterNumber, filterOut}
-use Rattle.retain.proofs.Checked.{passed, failed}
+use Rattle.laws.proofs.Checked.{passed, failed}
 use Rattle.retain.proofs.Picks.{retained-all}
 use borrow.Author.Needs.{needs}
 use borrow.Author.Needs.{needs}

@@ -3,7 +3,8 @@ use Prim.Native.Nat.{ℕ, _-_}
 use mathlib.Core.Path.{_≡_, sym, _∙_}
 use native.Mathlib.Omega.{arith}
 use Rattle.retain.specs.declared.Keep.the-variants.{Open, Shut}
-use Rattle.retain.proofs.Whole.{front-length, whole-chunk, no-chunk}
+use Rattle.laws.proofs.Whole.{front-length}
+use Rattle.retain.proofs.Whole.{whole-chunk, no-chunk}
 use borrow.Author.Needs.{needs}
 use Rattle.retain.proofs.retain_both.Statement.{statement}
 use Rattle.retain.proofs.retain_both.Tie as tie
@@ -11,7 +12,7 @@ use Rattle.retain.proofs.retain_both.Reads as reads
 use Rattle.retain.proofs.retain_both.Lts as lts
 use Rattle.chunk.proofs.write_table.Reads as write-table-reads
 use Rattle.retain.proofs.retain_items.Reads as retain-items-reads
-use Rattle.retain.proofs.runs.copy.Reads as copy-reads
+use Rattle.meld.proofs.copy_into.Reads as copy-into-reads
 use Rattle.retain.proofs.sides.both_of.Reads as both-of-reads
 
 none-left : (n all : ℕ) → n ≡ all → all - n ≡ 0
@@ -21,12 +22,12 @@ all-left : (n all : ℕ) → n ≡ 0 → all - n ≡ all
 all-left n all e = omega arith
 
 -- src/lib.rt:404:14
-slice-aggregate-copy : tie.Need-slice-aggregate-copy
-slice-aggregate-copy c = let a = c .before .before .before .before .before .before in sym (front-length (a .args .found) (a .args .words .now) (a .pre .0 .1 .0))
+slice-aggregate-copy-into : tie.Need-slice-aggregate-copy-into
+slice-aggregate-copy-into c = let a = c .before .before .before .before .before .before .before in sym (front-length (a .args .found) (a .args .words .now) (a .pre .0 .1 .0))
 
 -- src/lib.rt:404:9
-copy-requires : tie.Need-copy-requires
-copy-requires c κs = let a = c .before .before .before .before .before .before .before in let l = front-length (a .args .found) (a .args .words .now) (a .pre .0 .1 .0) in omega (arith, a .pre .0 .1 .0 .sized, a .pre .1 .0 .1 .0)
+copy-into-requires : tie.Need-copy-into-requires
+copy-into-requires c κs = search needs
 
 -- src/lib.rt:405:9
 write-table-requires : tie.Need-write-table-requires
@@ -34,7 +35,7 @@ write-table-requires c κs = search needs
 
 -- src/lib.rt:406:9
 same-length : tie.Need-same-length
-same-length c = c .before .before .before .before .before .before .copy .kept .1 .0
+same-length c = c .before .before .before .before .before .before .copy-into .kept .0
 
 -- src/lib.rt:406:9
 same-length-2 : tie.Need-same-length-2
@@ -42,19 +43,19 @@ same-length-2 c = c .before .before .write-table .kept .0
 
 -- src/lib.rt:406:9
 returns : tie.Need-returns
-returns c = let a = c .before .before .before .before .before .before .before .before .before .before .before .before .before .before in let p = a .pre .0 .1 .0 in let w = a .args .words .now in let q = a .pre .1 .1 in let e = c .before .before .before .before .before .before .before .before .before .if1 .taken in (c .before .before .before .before .before .before .copy .ensures ∙ whole-chunk Open (a .args .corners .now) w (a .pre .0 .0) (a .args .kept .now) (a .args .found .size) (sym (q .0) ∙ e ∙ p .timeCount) (p .sized) (p .within) (a .pre .1 .0 .1 .0), c .before .before .write-table .ensures ∙ no-chunk Shut (a .args .corners .now) w (a .pre .0 .0) (a .args .shipped .now) (sym (q .1 .1) ∙ none-left _ _ e) (omega (arith, a .pre .1 .0 .1 .1)))
+returns c = let a = c .before .before .before .before .before .before .before .before .before .before .before .before .before .before in let p = a .pre .0 .1 .0 in let w = a .args .words .now in let q = a .pre .1 .1 in let e = c .before .before .before .before .before .before .before .before .before .if1 .taken in (c .before .before .before .before .before .before .copy-into .ensures ∙ whole-chunk Open (a .args .corners .now) w (a .pre .0 .0) (a .args .kept .now) (a .args .found .size) (sym (q .0) ∙ e ∙ p .timeCount) (p .sized) (p .within) (a .pre .1 .0 .1 .0), c .before .before .write-table .ensures ∙ no-chunk Shut (a .args .corners .now) w (a .pre .0 .0) (a .args .shipped .now) (sym (q .1 .1) ∙ none-left _ _ e) (omega (arith, a .pre .1 .0 .1 .1)))
 
 -- src/lib.rt:409:9
 write-table-requires-2 : tie.Need-write-table-requires-2
 write-table-requires-2 c κs = search needs
 
 -- src/lib.rt:410:14
-slice-aggregate-copy-2 : tie.Need-slice-aggregate-copy-2
-slice-aggregate-copy-2 c = let a = c .before .before .before .before .before .before .before .before .before .before .before in sym (front-length (a .args .found) (a .args .words .now) (a .pre .0 .1 .0))
+slice-aggregate-copy-into-2 : tie.Need-slice-aggregate-copy-into-2
+slice-aggregate-copy-into-2 c = let a = c .before .before .before .before .before .before .before .before .before .before .before .before in sym (front-length (a .args .found) (a .args .words .now) (a .pre .0 .1 .0))
 
 -- src/lib.rt:410:9
-copy-requires-2 : tie.Need-copy-requires-2
-copy-requires-2 c κs = let a = c .before .before .before .before .before .before .before .before .before .before .before .before in let l = front-length (a .args .found) (a .args .words .now) (a .pre .0 .1 .0) in omega (arith, a .pre .0 .1 .0 .sized, a .pre .1 .0 .1 .1)
+copy-into-requires-2 : tie.Need-copy-into-requires-2
+copy-into-requires-2 c κs = search needs
 
 -- src/lib.rt:411:9
 same-length-3 : tie.Need-same-length-3
@@ -62,11 +63,11 @@ same-length-3 c = c .before .before .before .before .before .before .before .wri
 
 -- src/lib.rt:411:9
 same-length-4 : tie.Need-same-length-4
-same-length-4 c = c .before .before .copy2 .kept .1 .0
+same-length-4 c = c .before .before .copy-into2 .kept .0
 
 -- src/lib.rt:411:9
 returns-2 : tie.Need-returns-2
-returns-2 c = let a = c .before .before .before .before .before .before .before .before .before .before .before .before .before .before .before in let p = a .pre .0 .1 .0 in let w = a .args .words .now in let q = a .pre .1 .1 in let e = c .before .before .before .before .before .before .before .before .before .if2 .taken in (c .before .before .before .before .before .before .before .write-table2 .ensures ∙ no-chunk Open (a .args .corners .now) w (a .pre .0 .0) (a .args .kept .now) (sym (q .0) ∙ e) (omega (arith, a .pre .1 .0 .1 .0)), c .before .before .copy2 .ensures ∙ whole-chunk Shut (a .args .corners .now) w (a .pre .0 .0) (a .args .shipped .now) (a .args .found .size) (sym (q .1 .1) ∙ all-left _ _ e ∙ p .timeCount) (p .sized) (p .within) (a .pre .1 .0 .1 .1))
+returns-2 c = let a = c .before .before .before .before .before .before .before .before .before .before .before .before .before .before .before in let p = a .pre .0 .1 .0 in let w = a .args .words .now in let q = a .pre .1 .1 in let e = c .before .before .before .before .before .before .before .before .before .if2 .taken in (c .before .before .before .before .before .before .before .write-table2 .ensures ∙ no-chunk Open (a .args .corners .now) w (a .pre .0 .0) (a .args .kept .now) (sym (q .0) ∙ e) (omega (arith, a .pre .1 .0 .1 .0)), c .before .before .copy-into2 .ensures ∙ whole-chunk Shut (a .args .corners .now) w (a .pre .0 .0) (a .args .shipped .now) (a .args .found .size) (sym (q .1 .1) ∙ all-left _ _ e ∙ p .timeCount) (p .sized) (p .within) (a .pre .1 .0 .1 .1))
 
 -- src/lib.rt:413:9
 both-of-requires : tie.Need-both-of-requires
@@ -100,15 +101,15 @@ pub retain-both-spec : {M : Type 1} → statement M
 retain-both-spec =
     tie.close
     (tie.spec
-    slice-aggregate-copy
-    copy-requires
+    slice-aggregate-copy-into
+    copy-into-requires
     write-table-requires
     same-length
     same-length-2
     returns
     write-table-requires-2
-    slice-aggregate-copy-2
-    copy-requires-2
+    slice-aggregate-copy-into-2
+    copy-into-requires-2
     same-length-3
     same-length-4
     returns-2

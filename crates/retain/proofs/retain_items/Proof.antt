@@ -1,7 +1,7 @@
 -- `retain::retain_items` meets its contract: the parts cut out are the bodies, and what is written of them is the chunk of what stays.
 use native.Mathlib.Omega.{arith}
 use Rattle.retain.proofs.Retained.{cut-bodies, cut-left, cut-over}
-use Rattle.retain.proofs.Lending.{Lending, lending}
+use Rattle.laws.proofs.Lending.{Lending, lending}
 use borrow.Author.Needs.{needs}
 use Rattle.retain.proofs.retain_items.Statement.{statement}
 use Rattle.retain.proofs.retain_items.Tie as tie
@@ -9,7 +9,7 @@ use Rattle.retain.proofs.retain_items.Reads as reads
 use Rattle.retain.proofs.retain_items.Lts as lts
 use Rattle.retain.proofs.write_bodies.Reads as write-bodies-reads
 
-lent : (a : tie.Start) → Lending (a .args .found) (a .args .words .now)
+lent : (a : tie.Start) → Lending (a .args .words .now) (a .args .found)
 lent a = lending _ _ (a .pre .0 .1) (omega (arith, a .good .0))
 
 -- src/lib.rt:137:9

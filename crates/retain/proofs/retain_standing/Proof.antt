@@ -11,7 +11,8 @@ use Rattle.retain.specs.Frontier.{ordered}
 use Rattle.retain.specs.Keep.{retainedOf}
 use Rattle.retain.proofs.Picks.{retained-all}
 use Rattle.retain.proofs.Retained.{stand-count}
-use Rattle.retain.proofs.Whole.{front-length, whole-chunk, no-chunk}
+use Rattle.laws.proofs.Whole.{front-length}
+use Rattle.retain.proofs.Whole.{whole-chunk, no-chunk}
 use borrow.Author.Needs.{needs}
 use Rattle.retain.proofs.retain_standing.Statement.{statement}
 use Rattle.retain.proofs.retain_standing.Tie as tie
@@ -19,19 +20,19 @@ use Rattle.retain.proofs.retain_standing.Reads as reads
 use Rattle.retain.proofs.retain_standing.Lts as lts
 use Rattle.chunk.proofs.write_table.Reads as write-table-reads
 use Rattle.retain.proofs.retain_items.Reads as retain-items-reads
-use Rattle.retain.proofs.runs.copy.Reads as copy-reads
+use Rattle.meld.proofs.copy_into.Reads as copy-into-reads
 use Rattle.retain.proofs.stay.lists_of.Reads as lists-of-reads
 
 counted : (w : List ℕ) (n : ℕ) → wellFormed w ≡ true → n ≡ nd w → n ≡ length (retainedOf All [] w)
 counted w n f e = e ∙ sym (stand-count w f (λ i. true)) ∙ ap length (sym (retained-all w f []))
 
 -- src/lib.rt:160:14
-slice-aggregate-copy : tie.Need-slice-aggregate-copy
-slice-aggregate-copy c = let a = c .before .before .before .before in sym (front-length (a .args .found) (a .args .words .now) (a .pre .1 .0))
+slice-aggregate-copy-into : tie.Need-slice-aggregate-copy-into
+slice-aggregate-copy-into c = let a = c .before .before .before .before .before in sym (front-length (a .args .found) (a .args .words .now) (a .pre .1 .0))
 
 -- src/lib.rt:160:9
-copy-requires : tie.Need-copy-requires
-copy-requires c κs = let a = c .before .before .before .before .before in let l = front-length (a .args .found) (a .args .words .now) (a .pre .1 .0) in omega (arith, a .pre .1 .0 .sized, a .pre .1 .1)
+copy-into-requires : tie.Need-copy-into-requires
+copy-into-requires c κs = search needs
 
 -- src/lib.rt:161:9
 same-length : tie.Need-same-length
@@ -39,7 +40,7 @@ same-length c = search needs
 
 -- src/lib.rt:161:9
 returns : tie.Need-returns
-returns c = let a = c .before .before .before .before .before .before .before .before in let p = a .pre .1 .0 in let w = a .args .words .now in c .before .before .copy .ensures ∙ whole-chunk All [] w (a .pre .0) (a .args .out .now) (a .args .found .size) (sym (counted w (a .args .found .nd) (a .pre .0) (p .diffCount)) ∙ c .before .before .before .before .before .if1 .taken ∙ p .timeCount) (p .sized) (p .within) (a .pre .1 .1)
+returns c = let a = c .before .before .before .before .before .before .before .before in let p = a .pre .1 .0 in let w = a .args .words .now in c .before .before .copy-into .ensures ∙ whole-chunk All [] w (a .pre .0) (a .args .out .now) (a .args .found .size) (sym (counted w (a .args .found .nd) (a .pre .0) (p .diffCount)) ∙ c .before .before .before .before .before .if1 .taken ∙ p .timeCount) (p .sized) (p .within) (a .pre .1 .1)
 
 -- src/lib.rt:164:9
 write-table-requires : tie.Need-write-table-requires
@@ -86,8 +87,8 @@ pub retain-standing-spec : {M : Type 1} → statement M
 retain-standing-spec =
     tie.close
     (tie.spec
-    slice-aggregate-copy
-    copy-requires
+    slice-aggregate-copy-into
+    copy-into-requires
     same-length
     returns
     write-table-requires

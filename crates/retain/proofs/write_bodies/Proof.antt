@@ -2,7 +2,7 @@
 use Prim.Native.Nat.{ℕ, _+_}
 use mathlib.Core.Path.{sym, _∙_, ap}
 use Rattle.chunk.specs.Contents.{tableOf}
-use Rattle.retain.proofs.Parts.{out-cuts, up-to, within-as, whole-size, table-front, put-one, part-length}
+use Rattle.laws.proofs.Parts.{out-cuts, up-to, within-as, whole-size, table-front, put-one, part-length}
 use Rattle.retain.proofs.Weaving.{length-bodiesOut}
 use borrow.Author.Needs.{needs}
 use Rattle.retain.proofs.write_bodies.Statement.{statement}

@@ -6,7 +6,8 @@ use mathlib.Core.Logic.{⊎-elim}
 use native.Mathlib.Omega.{arith}
 use lib.ListN.{length, getD, length-set, List·getD-eq-default}
 use lib.Seq.{take-all}
-use Rattle.retain.proofs.Copies.{partly, stepped, partly-past, partly-end, lowered, length-lowered, getD-lowered}
+use Rattle.meld.proofs.Copy.{partly, stepped, partly-end}
+use Rattle.retain.proofs.Copies.{partly-past, lowered, length-lowered, getD-lowered}
 use borrow.Author.Needs.{needs}
 use Rattle.retain.proofs.climb.shift_down.Statement.{statement}
 use Rattle.retain.proofs.climb.shift_down.Tie as tie
@@ -64,7 +65,7 @@ loop-again c =
     let n = length-lowered p (a .args .by) (a .pre) in (
       omega arith,
       simp length-set (l .inv .1),
-      stepped p (lowered p (a .args .by)) (l .i) (omega arith) (omega arith) (l .inv .2)
+      stepped p (lowered p (a .args .by)) (l .i) 0 (omega arith) (omega arith) (l .inv .2)
           (⊎-elim
           (λ w. w .2 ∙ further p (a .args .by) (l .i) (l .part) (omega arith) (l .inv .2))
           (λ w. w .1 ∙ past p (a .args .by) (l .i) (omega (arith, w .0 .left)))

@@ -5,7 +5,8 @@ use mathlib.Core.List.{List, _∷_}
 use native.Mathlib.Omega.{arith}
 use native.Mathlib.Numerals.{add-one}
 use lib.ListN.{length, getD, length-set}
-use Rattle.retain.proofs.Copies.{partly, stepped, partly-past, partly-end}
+use Rattle.meld.proofs.Copy.{partly, stepped, partly-end}
+use Rattle.retain.proofs.Copies.{partly-past}
 use borrow.Author.Needs.{needs}
 use Rattle.retain.proofs.climb.shift_up.Statement.{statement}
 use Rattle.retain.proofs.climb.shift_up.Tie as tie
@@ -52,7 +53,7 @@ loop-again c =
     let v = c .before .before .before .args in (
       omega arith,
       simp length-set (l .inv .1),
-      stepped (v .part .now) (v .t ∷ v .part .now) (l .i) (omega arith) (omega arith) (l .inv .2) (l .inv .3),
+      stepped (v .part .now) (v .t ∷ v .part .now) (l .i) 0 (omega arith) (omega arith) (l .inv .2) (l .inv .3),
       next (v .part .now) (v .t) (l .i) (l .part) (omega arith) (l .inv .2),
     )
 

@@ -7,6 +7,7 @@ use mir.Syntax.{w64}
 use mir.Val.{Fits}
 use Rattle.retain.specs.Layers.{Bodies}
 use Rattle.retain.specs.Keep.{timeKept}
+use Rattle.meld.proofs.Copy.{put-count}
 use Rattle.retain.proofs.Leaving.{ready}
 use Rattle.retain.proofs.Stairs.{bit-one}
 use Rattle.retain.proofs.Weaving.{Layering, layers-start, layers-within, next-values, layers-next, layers-end}
@@ -16,7 +17,7 @@ use Rattle.retain.proofs.layers.write_layers.Tie as tie
 use Rattle.retain.proofs.layers.write_layers.Reads as reads
 use Rattle.retain.proofs.layers.write_layers.Lts as lts
 use Rattle.retain.proofs.layers.write_values.Reads as write-values-reads
-use Rattle.retain.proofs.runs.count_up.Reads as count-up-reads
+use Rattle.meld.proofs.count_up.Reads as count-up-reads
 use Rattle.retain.proofs.stay.bit_of.Reads as bit-of-reads
 
 abbrev Inv-loop : tie.InvT-loop
@@ -81,26 +82,41 @@ loop-less c = let l = c .before .before .before .before .before .before .before 
 loop-again : tie.Need-loop-again Inv-loop μ-loop
 loop-again c = let a = c .before .before .before .before .before .before .before .before .before .before .before .before .before .before .before .before .before .before in let l = c .before .before .before .before .before .before .before .before .loop in let b = l .inv .0 in let w = l .inv .1 .1 in let z = w .size in let t = c .before .before .before .before .before .before .before .loop-test .taken in let h = layers-within _ _ _ _ _ _ _ _ b _ _ _ _ _ _ _ _ _ (l .i) w t in let r = c .before .before .before .before .write-values in let n = r .kept .1 .1 .1 .1 .1 .1 .1 .1 .1 .1 .1 .1 .1 .0 in (b, (omega arith, layers-next _ _ _ _ _ _ _ _ b _ _ _ (l .out) _ _ _ _ _ _ (l .at) (l .i) _ _ _ _ w t n (r .ensures .0) (r .ensures .1) (c .bit-of .ensures) refl))
 
-add-count-up : tie.Need-add-count-up Inv-loop μ-loop
-add-count-up c = omega (arith, room (c .before .before .before .before .before .before .before .before .before .before .before .before))
+add-ends-at : tie.Need-add-ends-at Inv-loop μ-loop
+add-ends-at c = omega (arith, room (c .before .before .before .before .before .before .before .before .before .before .before))
 
-add-count-up-2 : tie.Need-add-count-up-2 Inv-loop μ-loop
-add-count-up-2 c = omega (arith, room (c .before .before .before .before .before .before .before .before .before .before .before .before))
+add-ends-at-2 : tie.Need-add-ends-at-2 Inv-loop μ-loop
+add-ends-at-2 c = omega (arith, room (c .before .before .before .before .before .before .before .before .before .before .before))
 
-add-count-up-3 : tie.Need-add-count-up-3 Inv-loop μ-loop
-add-count-up-3 c = omega (arith, room (c .before .before .before .before .before .before .before .before .before .before .before .before))
+add-ends-at-3 : tie.Need-add-ends-at-3 Inv-loop μ-loop
+add-ends-at-3 c = omega (arith, room (c .before .before .before .before .before .before .before .before .before .before .before))
 
-add-count-up-4 : tie.Need-add-count-up-4 Inv-loop μ-loop
-add-count-up-4 c = omega (arith, room (c .before .before .before .before .before .before .before .before .before .before .before .before))
+add-ends-at-4 : tie.Need-add-ends-at-4 Inv-loop μ-loop
+add-ends-at-4 c = omega (arith, room (c .before .before .before .before .before .before .before .before .before .before .before))
+
+add-diffs-at : tie.Need-add-diffs-at Inv-loop μ-loop
+add-diffs-at c = omega (arith, room (c .before .before .before .before .before .before .before .before .before .before .before))
+
+mul-count-up : tie.Need-mul-count-up Inv-loop μ-loop
+mul-count-up c = omega (arith, room (c .before .before .before .before .before .before .before .before .before .before .before))
+
+sub-count-up : tie.Need-sub-count-up Inv-loop μ-loop
+sub-count-up c = omega arith
+
+part-count-up-start : tie.Need-part-count-up-start Inv-loop μ-loop
+part-count-up-start c = omega arith
+
+part-count-up-end : tie.Need-part-count-up-end Inv-loop μ-loop
+part-count-up-end c = let l = c .before .loop in let w = l .inv .1 .1 in let z = w .size in omega arith
 
 count-up-requires : tie.Need-count-up-requires Inv-loop μ-loop
-count-up-requires c κs = let a = c .before .before .before .before .before .before .before .before .before .before .before .before in let l = c .before .before .loop in let b = l .inv .0 in let w = l .inv .1 .1 in let z = w .size in omega arith
+count-up-requires c κs = search needs
 
 same-length : tie.Need-same-length Inv-loop μ-loop
-same-length c = let a = c .before .before .before .before .before .before .before .before .before .before .before .before .before .before .before in let l = c .before .before .before .before .before .loop in let b = l .inv .0 in let w = l .inv .1 .1 in let z = w .size in c .before .before .count-up .kept .1 .0 ∙ z ∙ sym (a .pre .1 .1 .1)
+same-length c = let a = c .before .before .before .before .before .before .before .before .before .before .before .before .before .before .before in let l = c .before .before .before .before .before .loop in let w = l .inv .1 .1 in let z = w .size in c .before .out2 .given .1 ∙ z ∙ sym (a .pre .1 .1 .1)
 
 returns : tie.Need-returns Inv-loop μ-loop
-returns c = let a = c .before .before .before .before .before .before .before .before .before .before .before .before .before .before .before in let l = c .before .before .before .before .before .loop in let b = l .inv .0 in let w = l .inv .1 .1 in let z = w .size in c .before .before .count-up .ensures ∙ layers-end _ _ _ _ _ _ _ _ b _ _ _ (l .out) _ _ _ _ (l .at) (l .i) _ w (l .inv .1 .0) (c .before .before .before .before .loop-test .left) (omega arith)
+returns c = let a = c .before .before .before .before .before .before .before .before .before .before .before .before .before .before .before in let l = c .before .before .before .before .before .loop in let b = l .inv .0 in let w = l .inv .1 .1 in let z = w .size in put-count _ _ (a .args .nt) (l .out) _ refl (omega arith) (c .before .before .count-up .ensures) ∙ layers-end _ _ _ _ _ _ _ _ b _ _ _ (l .out) _ _ _ _ (l .at) (l .i) _ w (l .inv .1 .0) (c .before .before .before .before .loop-test .left) (omega arith)
 
 pub write-layers-spec : {M : Type 1} → statement M
 write-layers-spec =
@@ -125,10 +141,15 @@ write-layers-spec =
     add-i
     loop-less
     loop-again
-    add-count-up
-    add-count-up-2
-    add-count-up-3
-    add-count-up-4
+    add-ends-at
+    add-ends-at-2
+    add-ends-at-3
+    add-ends-at-4
+    add-diffs-at
+    mul-count-up
+    sub-count-up
+    part-count-up-start
+    part-count-up-end
     count-up-requires
     same-length
     returns)

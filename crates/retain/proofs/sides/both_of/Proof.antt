@@ -2,7 +2,7 @@
 use Rattle.retain.specs.declared.Keep.the-variants.{Open, Shut}
 use Rattle.retain.proofs.Leaving.{ready}
 use Rattle.retain.proofs.Retained.{cut-bodies, cut-settled, cut-lists, rises-as}
-use Rattle.retain.proofs.Lending.{Lending, lending}
+use Rattle.laws.proofs.Lending.{Lending, lending}
 use native.Mathlib.Omega.{arith}
 use Rattle.retain.proofs.sides.both_of.Statement.{statement}
 use Rattle.retain.proofs.sides.both_of.Tie as tie
@@ -10,7 +10,7 @@ use Rattle.retain.proofs.sides.both_of.Reads as reads
 use Rattle.retain.proofs.sides.both_of.Lts as lts
 use Rattle.retain.proofs.sides.count_both.Reads as count-both-reads
 
-lent : (a : tie.Start) → Lending (a .args .found) (a .args .words .now)
+lent : (a : tie.Start) → Lending (a .args .words .now) (a .args .found)
 lent a = lending _ _ (a .pre .0 .1 .0) (omega (arith, a .good .0))
 
 -- src/sides.rt:108:9

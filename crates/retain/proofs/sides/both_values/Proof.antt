@@ -6,7 +6,7 @@ use lib.ListN.{length}
 use Rattle.chunk.specs.Contents.{startOf}
 use Rattle.retain.specs.declared.Keep.the-variants.{Open, Shut}
 use Rattle.retain.specs.Keep.{timeKept}
-use Rattle.retain.specs.Layers.{listKept}
+use Rattle.laws.specs.Picked.{listKept}
 use Rattle.retain.proofs.Counts.{Counted, counted-start, counted-bit, counted-end, start-next}
 use Rattle.retain.proofs.Stairs.{bit-one}
 use Rattle.retain.proofs.Parting.{end-within, open-left, shut-left}

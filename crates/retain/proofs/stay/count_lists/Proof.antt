@@ -4,7 +4,8 @@ use mathlib.Core.Path.{_≡_, refl, _∙_, ap}
 use native.Mathlib.Omega.{arith}
 use lib.ListN.{length, getD}
 use Rattle.chunk.specs.Contents.{startOf}
-use Rattle.retain.specs.Layers.{listKept, hasDiff}
+use Rattle.laws.specs.Picked.{listKept}
+use Rattle.retain.specs.Layers.{hasDiff}
 use Rattle.retain.proofs.Counts.{Listed, listed-start, listed-room, listed-next, listed-end, start-counts, start-next}
 use Rattle.retain.proofs.Stairs.{bit-one}
 use Rattle.retain.proofs.Parting.{end-within, reach-next}

@@ -4,7 +4,8 @@ use mathlib.Core.Path.{_≡_, refl}
 use native.Mathlib.Omega.{arith}
 use lib.ListN.{length}
 use Rattle.chunk.specs.Contents.{startOf}
-use Rattle.retain.specs.Layers.{listKept, hasDiff}
+use Rattle.laws.specs.Picked.{listKept}
+use Rattle.retain.specs.Layers.{hasDiff}
 use Rattle.retain.proofs.Counts.{Counted, counted-start, counted-bit, counted-end}
 use Rattle.retain.proofs.Stairs.{bit-one}
 use Rattle.retain.proofs.Parting.{end-within, standing-left, reach-next}

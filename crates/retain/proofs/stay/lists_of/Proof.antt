@@ -1,7 +1,7 @@
 -- `retain::stay::lists_of` meets its contract: the parts cut out are the bodies.
 use mathlib.Core.Path.{sym}
 use Rattle.retain.proofs.Retained.{cut-bodies, cut-standing, rises-as}
-use Rattle.retain.proofs.Lending.{Lending, lending}
+use Rattle.laws.proofs.Lending.{Lending, lending}
 use native.Mathlib.Omega.{arith}
 use Rattle.retain.proofs.stay.lists_of.Statement.{statement}
 use Rattle.retain.proofs.stay.lists_of.Tie as tie
@@ -9,7 +9,7 @@ use Rattle.retain.proofs.stay.lists_of.Reads as reads
 use Rattle.retain.proofs.stay.lists_of.Lts as lts
 use Rattle.retain.proofs.stay.count_lists.Reads as count-lists-reads
 
-lent : (a : tie.Start) → Lending (a .args .found) (a .args .words .now)
+lent : (a : tie.Start) → Lending (a .args .words .now) (a .args .found)
 lent a = lending _ _ (a .pre .1) (omega (arith, a .good .0))
 
 -- src/stay.rt:100:9

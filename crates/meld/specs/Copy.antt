@@ -2,7 +2,7 @@
 -- the second of two layers go up by the items of the first (document 01: "an end is the count of child items up to and including that list").
 use Prim.Native.Nat.{ℕ, zero, suc, _+_, _%_, _^_}
 use mathlib.Core.Bool.{cond}
-use mathlib.Core.List.{List, _++_, map}
+use mathlib.Core.List.{List, [], _∷_, _++_, map}
 use lib.ListN.{length, take, drop}
 use lib.Dec.{leb}
 
@@ -22,6 +22,11 @@ shiftedAll by ends = map (shifted by) ends
 unfoldable pub gone : ℕ → List ℕ → List ℕ
 gone zero ends = ends
 gone (suc n) ends = shiftedAll (suc n) ends
+
+-- so many numbers from x on, in 64 bits
+unfoldable pub countedOn : ℕ → ℕ → List ℕ
+countedOn x zero = []
+countedOn x (suc n) = x % 2 ^ 64 ∷ countedOn (suc x) n
 
 -- a slice with new words from `at` on, the others as they were
 unfoldable pub placed : ℕ → List ℕ → List ℕ → List ℕ

@@ -6,8 +6,7 @@ ghost use Prim.Native.Nat.{_+_};
 ghost use lib.Dec.{leb};
 ghost use lib.ListN.{length};
 ghost use Rattle.chunk.specs.Words.{body, entries, headOr0, limit};
-ghost use Rattle.laws.specs.Picked.{countUp};
-ghost use Rattle.meld.specs.Copy.{copied, shiftedAll, gone, placedIn};
+ghost use Rattle.meld.specs.Copy.{copied, shiftedAll, countedOn, gone, placedIn};
 ghost use Rattle.meld.specs.Seam.{Holds, Both, lastOr0, lastPosition, firstPosition, asEntry, seamAt, seamOf};
 ghost use Rattle.meld.specs.Meld.{Melded, PairMelded};
 ghost use Rattle.meld.specs.Accepted.{refusalOf};
@@ -56,13 +55,13 @@ pub fn copy_shifted(dst: &mut [u64], ends: &[u64], by: u64)
     }
 }
 
-// Fills a slice with 1, 2 and so on: the ends of lists of one item each.
-pub fn count_up(dst: &mut [u64])
-    ensures { λ _. ⌜ now (dst .exit) ≡ countUp 0 (length (now (dst .entry))) ⌝ }
+// Fills a slice with `first` and the numbers after it, in 64 bits: from 1 on, the ends of lists of one item each.
+pub fn count_on(dst: &mut [u64], first: u64)
+    ensures { λ _. ⌜ now (dst .exit) ≡ countedOn first (length (now (dst .entry))) ⌝ }
 {
     let mut place = 0;
     while place < dst.len() {
-        dst[place] = place as u64 + 1;
+        dst[place] = std::num::wrapping_add_u64(first, place as u64);
         place += 1;
     }
 }

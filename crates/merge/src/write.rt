@@ -6,7 +6,7 @@ ghost use lib.ListN.{length, take, drop};
 ghost use Rattle.chunk.specs.Words.{limit, rises};
 ghost use Rattle.meld.specs.Copy.{shiftedAll};
 ghost use Rattle.reports.specs.Scratch.{placed, reportAt, reportsAt};
-ghost use Rattle.reports.specs.Write.{Room, RunRoom, RunsRoom, named, itemsBy, width, widths, startsIn, insideFrom, groupSize, Serves, lowOf, listEnds, endsBy, Rising, Counting, ListRoom, EndsRoom, countedOn, InRow, diffOf, diffsBy, diffEndsBy, DiffsRoom, layerBy};
+ghost use Rattle.reports.specs.Write.{Room, RunRoom, RunsRoom, named, itemsBy, width, widths, startsIn, insideFrom, groupSize, Serves, lowOf, listEnds, endsBy, Rising, Counting, ListRoom, EndsRoom, InRow, diffOf, diffsBy, diffEndsBy, DiffsRoom, layerBy};
 
 // The kinds of a report: a run of the first input, a run of the second; any other is an item of both.
 use crate::THAT;
@@ -23,17 +23,6 @@ fn put_items(out: &mut [u64], at: usize, words: &[u64], from: usize, to: usize)
 
 // Fewer ends than this are copied also where they follow one another.
 const MANY: usize = 16;
-
-// Writes `first` and the numbers after it, in 64 bits.
-fn count_on(out: &mut [u64], first: u64)
-    ensures { λ _. ⌜ now (out .exit) ≡ countedOn first (length (now (out .entry))) ⌝ }
-{
-    let mut i = 0;
-    while i < out.len() {
-        out[i] = std::num::wrapping_add_u64(first, i as u64);
-        i += 1;
-    }
-}
 
 // Whether the ends from `from` to `to` are many that follow one another, by the first and the last of them.
 fn in_row(ends: &[u64], from: usize, to: usize) -> bool
@@ -57,7 +46,7 @@ fn put_ends(out: &mut [u64], at: usize, words: &[u64], from: usize, to: usize, b
     let end = at + (to - from);
     if in_row(words, from, to) {
         let first = std::num::wrapping_add_u64(words[from], by);
-        count_on(&mut out[at..end], first);
+        meld::count_on(&mut out[at..end], first);
         return;
     }
     meld::copy_shifted(&mut out[at..end], &words[from..to], by);

@@ -8,6 +8,7 @@ use lib.Dec.{eqb, ltb}
 use lib.ListN.{length, getD, take, drop, length-drop, length-map}
 use lib.Seq.{length-take-le, drop-cons}
 use borrow.Author.Tests.{ne-eqb, lt-ltb}
+use Rattle.laws.specs.Picked.{countUp}
 use Rattle.laws.proofs.Tests.{and-left, and-right, and-both}
 use Rattle.laws.proofs.Tries.{rises-tail}
 use Rattle.chunk.specs.Entry.{Entry, stands, keep, every}
@@ -30,28 +31,23 @@ noEntry = record { key = 0; val = 0; time = 0; diff = 0 }
 diffs-long : (es : List Entry) → every stands es ≡ true → length (diffs es) ≡ length es
 diffs-long es h = ap length (diffs-all es h) ∙ length-map es (λ (e : Entry). e .diff)
 
--- so many numbers past n
-unfoldable counted : ℕ → ℕ → List ℕ
-counted n zero = []
-counted n (suc m) = suc n ∷ counted (suc n) m
-
-ends-counted : (n : ℕ) (es : List Entry) → every stands es ≡ true → diffEndsFrom n es ≡ counted n (length es)
-unfolding diffEndsFrom every counted
+ends-counted : (n : ℕ) (es : List Entry) → every stands es ≡ true → diffEndsFrom n es ≡ countUp n (length es)
+unfolding diffEndsFrom every countUp
 ends-counted n [] h = refl
 ends-counted n (e ∷ es) h = rw (and-left (stands e) _ h) (ap (λ (l : List ℕ). suc n ∷ l) (ends-counted (suc n) es (and-right (stands e) _ h)))
 
-counted-rise : (n m : ℕ) → risesFrom n (counted n m) ≡ true
-unfolding counted risesFrom
+counted-rise : (n m : ℕ) → risesFrom n (countUp n m) ≡ true
+unfolding countUp risesFrom
 counted-rise n zero = refl
 counted-rise n (suc m) = and-both (ltb n (suc n)) _ (lt-ltb n (suc n) (omega arith)) (counted-rise (suc n) m)
 
 -- the diff ends of a settled input rise
 pub settled-rise : (es : List Entry) → every stands es ≡ true → rises (diffEnds es) ≡ true
 unfolding rises
-settled-rise es h = rw (ends-counted 0 es h) (rises-tail 0 (counted 0 (length es)) (counted-rise 0 (length es)))
+settled-rise es h = rw (ends-counted 0 es h) (rises-tail 0 (countUp 0 (length es)) (counted-rise 0 (length es)))
 
-drop-counted : (l n m : ℕ) → drop l (counted n m) ≡ counted (n + l) (m - l)
-unfolding counted
+drop-counted : (l n m : ℕ) → drop l (countUp n m) ≡ countUp (n + l) (m - l)
+unfolding countUp
 drop-counted zero n m = let e : n + 0 ≡ n = omega arith in let f : m - 0 ≡ m = omega arith in rw (e, f)
 drop-counted (suc l) n zero = let f : 0 - suc l ≡ 0 = omega arith in rw f
 drop-counted (suc l) n (suc m) =
@@ -59,37 +55,37 @@ drop-counted (suc l) n (suc m) =
     let f : suc m - suc l ≡ m - l = omega arith in
     rw (e, f) (drop-counted l (suc n) m)
 
-take-counted : (k n m : ℕ) → k ≤ m → take k (counted n m) ≡ counted n k
-unfolding counted
+take-counted : (k n m : ℕ) → k ≤ m → take k (countUp n m) ≡ countUp n k
+unfolding countUp
 take-counted zero n m h = refl
 take-counted (suc k) n zero h = absurd (omega arith)
 take-counted (suc k) n (suc m) h = ap (λ (l : List ℕ). suc n ∷ l) (take-counted k (suc n) m (omega arith))
 
 shift-counted : (base x k off : ℕ) → x + off + k < 2 ^ 64 → base + off + k < 2 ^ 64
-    → shiftedAll (wrapped base x) (counted (x + off) k) ≡ counted (base + off) k
-unfolding counted
+    → shiftedAll (wrapped base x) (countUp (x + off) k) ≡ countUp (base + off) k
+unfolding countUp
 shift-counted base x zero off h j = refl
 shift-counted base x (suc k) off h j =
     let e : shifted (wrapped base x) (suc (x + off)) ≡ suc (base + off) = omega arith in
     let p : suc (x + off) ≡ x + suc off = omega arith in
     let q : suc (base + off) ≡ base + suc off = omega arith in
-    (λ i. e i ∷ shiftedAll (wrapped base x) (counted (p i) k))
+    (λ i. e i ∷ shiftedAll (wrapped base x) (countUp (p i) k))
     ∙ ap (λ (l : List ℕ). suc (base + off) ∷ l) (shift-counted base x k (suc off) (omega arith) (omega arith))
-    ∙ (λ i. suc (base + off) ∷ counted (sym q i) k)
+    ∙ (λ i. suc (base + off) ∷ countUp (sym q i) k)
 
-raise-counted : (base n k : ℕ) → raised base (counted n k) ≡ counted (n + base) k
-unfolding counted raised
+raise-counted : (base n k : ℕ) → raised base (countUp n k) ≡ countUp (n + base) k
+unfolding countUp raised
 raise-counted base n zero = refl
 raise-counted base n (suc k) = ap (λ (l : List ℕ). (suc n + base) ∷ l) (raise-counted base (suc n) k) ∙ more
   where
     e : suc n + base ≡ suc (n + base)
     e = omega arith
 
-    more : _≡_ {A = List ℕ} ((suc n + base) ∷ counted (suc n + base) k) (suc (n + base) ∷ counted (suc (n + base)) k)
-    more = λ i. e i ∷ counted (e i) k
+    more : _≡_ {A = List ℕ} ((suc n + base) ∷ countUp (suc n + base) k) (suc (n + base) ∷ countUp (suc (n + base)) k)
+    more = λ i. e i ∷ countUp (e i) k
 
-counted-more : (n k : ℕ) → counted n k ++ ((n + suc k) ∷ []) ≡ counted n (suc k)
-unfolding counted
+counted-more : (n k : ℕ) → countUp n k ++ ((n + suc k) ∷ []) ≡ countUp n (suc k)
+unfolding countUp
 counted-more n zero = let e : n + 1 ≡ suc n = omega arith in rw e
 counted-more n (suc k) =
     let e : n + suc (suc k) ≡ suc n + suc k = omega arith in
@@ -114,14 +110,14 @@ run-ends base l h es s o w m j =
     let y : base + 0 ≡ base = omega arith in
     let part : List Entry = take (h - l) (drop l es) in
     let long : length part ≡ suc k = length-take-le (h - l) (drop l es) (simp length-drop (omega arith)) ∙ n in
-    let t : take k (drop l (diffEnds es)) ≡ counted (l + 0) k =
+    let t : take k (drop l (diffEnds es)) ≡ countUp (l + 0) k =
     ap (λ (d : List ℕ). take k (drop l d)) (ends-counted 0 es s) ∙ ap (take k) (drop-counted l 0 (length es))
-    ∙ take-counted k (0 + l) (length es - l) (omega arith) ∙ (λ i. counted (q i) k) in
+    ∙ take-counted k (0 + l) (length es - l) (omega arith) ∙ (λ i. countUp (q i) k) in
     ap (λ (d : List ℕ). shiftedAll (wrapped base l) d ++ ((base + (h - l)) ∷ [])) t
     ∙ (λ i. shift-counted base l k 0 (omega arith) (omega arith) i ++ ((base + n i) ∷ []))
-    ∙ (λ i. counted (y i) k ++ ((base + suc k) ∷ []))
+    ∙ (λ i. countUp (y i) k ++ ((base + suc k) ∷ []))
     ∙ counted-more base k
-    ∙ (λ i. counted (sym r i) (sym long i))
+    ∙ (λ i. countUp (sym r i) (sym long i))
     ∙ sym (raise-counted base 0 (length part))
     ∙ ap (raised base) (sym (ends-counted 0 part (every-take stands (h - l) (drop l es) (every-drop stands l es s))))
   where

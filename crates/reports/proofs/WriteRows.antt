@@ -2,40 +2,21 @@
 use Prim.Native.Nat.{ℕ, zero, suc, _+_, _-_, _^_, _%_, _<_, _≤_}
 use mathlib.Core.Path.{_≡_, refl, sym, _∙_, ap}
 use mathlib.Core.Bool.{true}
-use mathlib.Core.List.{List, [], _∷_, append-nil}
+use mathlib.Core.List.{List, [], _∷_}
 use native.Mathlib.Omega.{arith}
 use lib.Dec.{ltb}
-use lib.ListN.{length, getD, take, drop, length-map, List·getD-map, drop-of-length-le}
-use lib.Seq.{ext-getD, getD-take, getD-drop, take-all}
+use lib.ListN.{length, getD, take, drop, length-map, List·getD-map}
+use lib.Seq.{ext-getD, getD-take, getD-drop}
 use borrow.Author.Tests.{ltb-true}
 use borrow.Rule.Slice.PartMut.{putMid}
 use Rattle.laws.proofs.Tests.{and-left, and-right}
 use Rattle.laws.proofs.Tries.{rises-tail}
 use Rattle.chunk.specs.Words.{rises, risesFrom}
-use Rattle.meld.specs.Copy.{copied, shifted, shiftedAll}
+use Rattle.meld.specs.Copy.{copied, shifted, shiftedAll, countedOn}
+use Rattle.meld.proofs.Copy.{length-counted, getD-counted, copied-whole}
 use Rattle.reports.specs.Scratch.{placed}
-use Rattle.reports.specs.Write.{Room, countedOn, InRow}
+use Rattle.reports.specs.Write.{Room, InRow}
 use Rattle.reports.proofs.WriteRuns.{length-range, put-ends-placed}
-
--- so many numbers
-pub length-counted : (x n : ℕ) → length (countedOn x n) ≡ n
-unfolding countedOn
-length-counted x zero = refl
-length-counted x (suc n) = ap suc (length-counted (suc x) n)
-
--- the number at a place
-pub getD-counted : (x n i d : ℕ) → i < n → (x + i) % 2 ^ 64 ≡ getD (countedOn x n) i d
-unfolding countedOn
-getD-counted x zero i d h = absurd (omega arith)
-getD-counted x (suc n) zero d h = omega arith
-getD-counted x (suc n) (suc i) d h =
-    let e : x + suc i ≡ suc x + i = omega arith in
-    rw e (getD-counted (suc x) n i d (omega arith))
-
--- a copy as long as the slice is all of it
-pub copied-whole : (dst src : List ℕ) → length src ≡ length dst → copied dst src ≡ src
-unfolding copied
-copied-whole dst src e = rw (take-all (length dst) src (omega arith), drop-of-length-le dst {i = length src} (omega arith), append-nil src)
 
 -- a rising list goes up by one a place at least
 above : (a : ℕ) (l : List ℕ) (j : ℕ) → risesFrom a l ≡ true → j < length l → a + suc j ≤ getD l j 0

@@ -11,6 +11,7 @@ use borrow.Author.Tests.{ltb-true, lt-ltb, le-ltb, eqb-true}
 use Rattle.laws.proofs.Tests.{and-left, and-right}
 use Rattle.chunk.specs.Words.{endsRise}
 use Rattle.chunk.specs.Contents.{startOf}
+use Rattle.laws.proofs.Ends.{ends-up, rise-rises}
 use Rattle.reports.specs.Survey.{Report, this, that, both}
 use Rattle.reports.specs.Write.{Run, Inside, Shared, Under, ended, first, second, shared, startsIn, insideFrom, groupSize, Found, AllServe, AllSome, Upward}
 
@@ -23,18 +24,10 @@ low-below low (e ∷ ends) top zero h k = ltb-true low e (and-left _ _ h)
 low-below low (e ∷ ends) top (suc i) h k =
     omega (arith, ltb-true low e (and-left _ _ h), low-below e ends top i (and-right (ltb low e) _ h) (omega arith))
 
-climb : (low : ℕ) (ends : List ℕ) (top i j : ℕ) → endsRise low ends top ≡ true → i ≤ j → j < length ends → getD ends i 0 ≤ getD ends j 0
-unfolding endsRise
-climb low [] top i j h o k = absurd (omega arith)
-climb low (e ∷ ends) top zero zero h o k = omega arith
-climb low (e ∷ ends) top zero (suc j) h o k = omega (arith, low-below e ends top j (and-right (ltb low e) _ h) (omega arith))
-climb low (e ∷ ends) top (suc i) zero h o k = absurd (omega arith)
-climb low (e ∷ ends) top (suc i) (suc j) h o k = climb e ends top i j (and-right (ltb low e) _ h) (omega arith) (omega arith)
-
 -- a later list starts at or past an earlier one's end
 pub starts-past : (ends : List ℕ) (top i l : ℕ) → endsRise 0 ends top ≡ true → i < l → l ≤ length ends → getD ends i 0 ≤ startOf ends l
 starts-past ends top i zero h o k = absurd (omega arith)
-starts-past ends top i (suc l) h o k = climb 0 ends top i l h (omega arith) (omega arith)
+starts-past ends top i (suc l) h o k = ends-up ends i l (rise-rises 0 ends top h) (omega arith) (omega arith)
 
 -- ---- the reports of two lists, and where they stop
 

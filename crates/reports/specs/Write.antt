@@ -152,11 +152,6 @@ firstLow (r ∷ rs) = lowOf r
 abbrev pub wrapped : ℕ → ℕ → ℕ
 wrapped base x = (base + (2 ^ 64 - x)) % 2 ^ 64
 
--- so many numbers from x on, in 64 bits
-unfoldable pub countedOn : ℕ → ℕ → List ℕ
-countedOn x zero = []
-countedOn x (suc n) = x % 2 ^ 64 ∷ countedOn (suc x) n
-
 -- ends that follow one another, where they rise: the last is as far above the first as it stands past it
 pub record InRow (ends : List ℕ) (from to : ℕ) : Type 0 where
   pub some : from < to

@@ -173,5 +173,5 @@ pub(crate) fn write_layers(
     }
     let ends_at = nk + nk + nv + nv + nt;
     let diffs_at = ends_at + nt;
-    meld::count_up(&mut out[ends_at..diffs_at]);
+    meld::count_on(&mut out[ends_at..diffs_at], 1);
 }

@@ -86,7 +86,7 @@ fn write_run(times: &[u64], diffs: &[u64], out: &mut [u64])
     let diffs_at = n + n;
     let end = diffs_at + n;
     meld::copy_into(out, times);
-    meld::count_up(&mut out[n..diffs_at]);
+    meld::count_on(&mut out[n..diffs_at], 1);
     meld::copy_into(&mut out[diffs_at..end], diffs);
 }
 

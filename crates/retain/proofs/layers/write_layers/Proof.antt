@@ -17,7 +17,7 @@ use Rattle.retain.proofs.layers.write_layers.Tie as tie
 use Rattle.retain.proofs.layers.write_layers.Reads as reads
 use Rattle.retain.proofs.layers.write_layers.Lts as lts
 use Rattle.retain.proofs.layers.write_values.Reads as write-values-reads
-use Rattle.meld.proofs.count_up.Reads as count-up-reads
+use Rattle.meld.proofs.count_on.Reads as count-on-reads
 use Rattle.retain.proofs.stay.bit_of.Reads as bit-of-reads
 
 abbrev Inv-loop : tie.InvT-loop
@@ -97,26 +97,26 @@ add-ends-at-4 c = omega (arith, room (c .before .before .before .before .before 
 add-diffs-at : tie.Need-add-diffs-at Inv-loop μ-loop
 add-diffs-at c = omega (arith, room (c .before .before .before .before .before .before .before .before .before .before .before))
 
-mul-count-up : tie.Need-mul-count-up Inv-loop μ-loop
-mul-count-up c = omega (arith, room (c .before .before .before .before .before .before .before .before .before .before .before))
+mul-count-on : tie.Need-mul-count-on Inv-loop μ-loop
+mul-count-on c = omega (arith, room (c .before .before .before .before .before .before .before .before .before .before .before))
 
-sub-count-up : tie.Need-sub-count-up Inv-loop μ-loop
-sub-count-up c = omega arith
+sub-count-on : tie.Need-sub-count-on Inv-loop μ-loop
+sub-count-on c = omega arith
 
-part-count-up-start : tie.Need-part-count-up-start Inv-loop μ-loop
-part-count-up-start c = omega arith
+part-count-on-start : tie.Need-part-count-on-start Inv-loop μ-loop
+part-count-on-start c = omega arith
 
-part-count-up-end : tie.Need-part-count-up-end Inv-loop μ-loop
-part-count-up-end c = let l = c .before .loop in let w = l .inv .1 .1 in let z = w .size in omega arith
+part-count-on-end : tie.Need-part-count-on-end Inv-loop μ-loop
+part-count-on-end c = let l = c .before .loop in let w = l .inv .1 .1 in let z = w .size in omega arith
 
-count-up-requires : tie.Need-count-up-requires Inv-loop μ-loop
-count-up-requires c κs = search needs
+count-on-requires : tie.Need-count-on-requires Inv-loop μ-loop
+count-on-requires c κs = search needs
 
 same-length : tie.Need-same-length Inv-loop μ-loop
 same-length c = let a = c .before .before .before .before .before .before .before .before .before .before .before .before .before .before .before in let l = c .before .before .before .before .before .loop in let w = l .inv .1 .1 in let z = w .size in c .before .out2 .given .1 ∙ z ∙ sym (a .pre .1 .1 .1)
 
 returns : tie.Need-returns Inv-loop μ-loop
-returns c = let a = c .before .before .before .before .before .before .before .before .before .before .before .before .before .before .before in let l = c .before .before .before .before .before .loop in let b = l .inv .0 in let w = l .inv .1 .1 in let z = w .size in put-count _ _ (a .args .nt) (l .out) _ refl (omega arith) (c .before .before .count-up .ensures) ∙ layers-end _ _ _ _ _ _ _ _ b _ _ _ (l .out) _ _ _ _ (l .at) (l .i) _ w (l .inv .1 .0) (c .before .before .before .before .loop-test .left) (omega arith)
+returns c = let a = c .before .before .before .before .before .before .before .before .before .before .before .before .before .before .before in let l = c .before .before .before .before .before .loop in let b = l .inv .0 in let w = l .inv .1 .1 in let z = w .size in put-count _ _ (a .args .nt) (l .out) _ (omega (arith, room a)) refl (omega arith) (c .before .before .count-on .ensures) ∙ layers-end _ _ _ _ _ _ _ _ b _ _ _ (l .out) _ _ _ _ (l .at) (l .i) _ w (l .inv .1 .0) (c .before .before .before .before .loop-test .left) (omega arith)
 
 pub write-layers-spec : {M : Type 1} → statement M
 write-layers-spec =
@@ -146,10 +146,10 @@ write-layers-spec =
     add-ends-at-3
     add-ends-at-4
     add-diffs-at
-    mul-count-up
-    sub-count-up
-    part-count-up-start
-    part-count-up-end
-    count-up-requires
+    mul-count-on
+    sub-count-on
+    part-count-on-start
+    part-count-on-end
+    count-on-requires
     same-length
     returns)

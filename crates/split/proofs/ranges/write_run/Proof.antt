@@ -13,7 +13,7 @@ use Rattle.split.proofs.ranges.write_run.Tie as tie
 use Rattle.split.proofs.ranges.write_run.Reads as reads
 use Rattle.split.proofs.ranges.write_run.Lts as lts
 use Rattle.meld.proofs.copy_into.Reads as copy-into-reads
-use Rattle.meld.proofs.count_up.Reads as count-up-reads
+use Rattle.meld.proofs.count_on.Reads as count-on-reads
 
 add-diffs-at : tie.Need-add-diffs-at
 add-diffs-at c = search needs
@@ -24,20 +24,20 @@ add-end c = search needs
 copy-into-requires : tie.Need-copy-into-requires
 copy-into-requires c κs = search needs
 
-mul-count-up : tie.Need-mul-count-up
-mul-count-up c = search needs
+mul-count-on : tie.Need-mul-count-on
+mul-count-on c = search needs
 
-sub-count-up : tie.Need-sub-count-up
-sub-count-up c = search needs
+sub-count-on : tie.Need-sub-count-on
+sub-count-on c = search needs
 
-part-count-up-start : tie.Need-part-count-up-start
-part-count-up-start c = search needs
+part-count-on-start : tie.Need-part-count-on-start
+part-count-on-start c = search needs
 
-part-count-up-end : tie.Need-part-count-up-end
-part-count-up-end c = search needs
+part-count-on-end : tie.Need-part-count-on-end
+part-count-on-end c = search needs
 
-count-up-requires : tie.Need-count-up-requires
-count-up-requires c κs = search needs
+count-on-requires : tie.Need-count-on-requires
+count-on-requires c κs = search needs
 
 mul-copy-into : tie.Need-mul-copy-into
 mul-copy-into c = search needs
@@ -66,7 +66,7 @@ returns c =
     let back = c .before .before .before .before .before .out2 .given .1 in
     put-copy (n + n) (n + n + n) _ (a .args .diffs .now) _ (omega (arith, a .pre .0)) (omega arith) (c .before .before .copy-into2 .ensures)
     ∙ ap (λ (l : List ℕ). sets l (n + n) (a .args .diffs .now))
-    (put-count n (n + n) n _ _ refl (omega arith) (c .before .before .before .before .before .before .count-up .ensures)
+    (put-count n (n + n) n _ _ (omega (arith, a .good .0)) refl (omega arith) (c .before .before .before .before .before .before .count-on .ensures)
     ∙ ap (λ (l : List ℕ). sets l n (countUp 0 n)) (c .before .before .before .before .before .before .before .before .before .before .copy-into .ensures ∙ copied-sets (a .args .out .now) (a .args .times .now) (omega arith)))
 
 pub write-run-spec : {M : Type 1} → statement M
@@ -76,11 +76,11 @@ write-run-spec =
     add-diffs-at
     add-end
     copy-into-requires
-    mul-count-up
-    sub-count-up
-    part-count-up-start
-    part-count-up-end
-    count-up-requires
+    mul-count-on
+    sub-count-on
+    part-count-on-start
+    part-count-on-end
+    count-on-requires
     mul-copy-into
     sub-copy-into
     part-copy-into-start

@@ -9,6 +9,7 @@ use lib.ListN.{length, getD, take, drop, length-drop, length-map}
 use lib.Seq.{length-take-le, drop-cons}
 use borrow.Author.Tests.{ne-eqb, lt-ltb}
 use Rattle.laws.specs.Picked.{countUp}
+use Rattle.laws.proofs.Picked.{diffEnds-up}
 use Rattle.laws.proofs.Tests.{and-left, and-right, and-both}
 use Rattle.laws.proofs.Tries.{rises-tail}
 use Rattle.chunk.specs.Entry.{Entry, stands, keep, every}
@@ -31,11 +32,7 @@ noEntry = record { key = 0; val = 0; time = 0; diff = 0 }
 diffs-long : (es : List Entry) → every stands es ≡ true → length (diffs es) ≡ length es
 diffs-long es h = ap length (diffs-all es h) ∙ length-map es (λ (e : Entry). e .diff)
 
-ends-counted : (n : ℕ) (es : List Entry) → every stands es ≡ true → diffEndsFrom n es ≡ countUp n (length es)
-unfolding diffEndsFrom every countUp
-ends-counted n [] h = refl
-ends-counted n (e ∷ es) h = rw (and-left (stands e) _ h) (ap (λ (l : List ℕ). suc n ∷ l) (ends-counted (suc n) es (and-right (stands e) _ h)))
-
+-- numbers that follow one another rise
 counted-rise : (n m : ℕ) → risesFrom n (countUp n m) ≡ true
 unfolding countUp risesFrom
 counted-rise n zero = refl
@@ -44,7 +41,7 @@ counted-rise n (suc m) = and-both (ltb n (suc n)) _ (lt-ltb n (suc n) (omega ari
 -- the diff ends of a settled input rise
 pub settled-rise : (es : List Entry) → every stands es ≡ true → rises (diffEnds es) ≡ true
 unfolding rises
-settled-rise es h = rw (ends-counted 0 es h) (rises-tail 0 (countUp 0 (length es)) (counted-rise 0 (length es)))
+settled-rise es h = rw (diffEnds-up 0 es h) (rises-tail 0 (countUp 0 (length es)) (counted-rise 0 (length es)))
 
 drop-counted : (l n m : ℕ) → drop l (countUp n m) ≡ countUp (n + l) (m - l)
 unfolding countUp
@@ -111,7 +108,7 @@ run-ends base l h es s o w m j =
     let part : List Entry = take (h - l) (drop l es) in
     let long : length part ≡ suc k = length-take-le (h - l) (drop l es) (simp length-drop (omega arith)) ∙ n in
     let t : take k (drop l (diffEnds es)) ≡ countUp (l + 0) k =
-    ap (λ (d : List ℕ). take k (drop l d)) (ends-counted 0 es s) ∙ ap (take k) (drop-counted l 0 (length es))
+    ap (λ (d : List ℕ). take k (drop l d)) (diffEnds-up 0 es s) ∙ ap (take k) (drop-counted l 0 (length es))
     ∙ take-counted k (0 + l) (length es - l) (omega arith) ∙ (λ i. countUp (q i) k) in
     ap (λ (d : List ℕ). shiftedAll (wrapped base l) d ++ ((base + (h - l)) ∷ [])) t
     ∙ (λ i. shift-counted base l k 0 (omega arith) (omega arith) i ++ ((base + n i) ∷ []))
@@ -119,7 +116,7 @@ run-ends base l h es s o w m j =
     ∙ counted-more base k
     ∙ (λ i. countUp (sym r i) (sym long i))
     ∙ sym (raise-counted base 0 (length part))
-    ∙ ap (raised base) (sym (ends-counted 0 part (every-take stands (h - l) (drop l es) (every-drop stands l es s))))
+    ∙ ap (raised base) (sym (diffEnds-up 0 part (every-take stands (h - l) (drop l es) (every-drop stands l es s))))
   where
     q : 0 + l ≡ l + 0
     q = omega arith

@@ -8,3 +8,4 @@ pub mod Parting
 pub mod Rowing
 pub mod Stepping
 pub mod Looking
+pub mod Lending

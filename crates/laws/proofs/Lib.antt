@@ -20,4 +20,3 @@ pub mod Stores
 pub mod Parts
 pub mod Whole
 pub mod Checked
-pub mod Lending

@@ -163,8 +163,7 @@ pub(crate) fn write_layers(
         let after = reached.vals;
         out[at] = keys[i];
         out[nk + at] = after as u64;
-        let stays = bit_of(total < after);
-        at += stays;
+        at += bit_of(total < after);
         total = after;
         time = reached.time;
         written = reached.times;
@@ -172,6 +171,5 @@ pub(crate) fn write_layers(
         i += 1;
     }
     let ends_at = nk + nk + nv + nv + nt;
-    let diffs_at = ends_at + nt;
-    meld::count_on(&mut out[ends_at..diffs_at], 1);
+    meld::count_on(&mut out[ends_at..ends_at + nt], 1);
 }

@@ -19,6 +19,7 @@ use Rattle.chunk.proofs.WellFormed.{whole, refuted}
 use Rattle.chunk.proofs.Rowing.{alike}
 use Rattle.chunk.proofs.Placed.{cut-keys, cut-val-ends, cut-vals, cut-time-ends, cut-times, cut-diff-ends, cut-diffs, length-vals, length-times, length-diffs}
 use borrow.Author.Needs.{needs}
+use Rattle.chunk.proofs.Lending.{Lending, lending}
 use Rattle.chunk.proofs.layers_hold.Statement.{statement}
 use Rattle.chunk.proofs.layers_hold.Tie as tie
 
@@ -69,53 +70,56 @@ module _ (f : Contents) (w : List ℕ) (p : Placed f w) where
       })))
       (λ k. k ∙ refuted w (λ q. no (q .keysRise) (sym h ∙ k)))
 
+lent : (a : tie.Start) → Lending (a .args .words .now) (a .args .found)
+lent a = lending _ _ (a .pre .0) (omega (arith, a .good .0))
+
 mul-lower-holds : tie.Need-mul-lower-holds
-mul-lower-holds c = search needs
+mul-lower-holds c = lent (c .before) .its-time-ends .bytes
 
 sub-lower-holds : tie.Need-sub-lower-holds
-sub-lower-holds c = search needs
+sub-lower-holds c = lent (c .before) .its-time-ends .ordered
 
 part-lower-holds-start : tie.Need-part-lower-holds-start
-part-lower-holds-start c = search needs
+part-lower-holds-start c = lent (c .before) .its-time-ends .ordered
 
 part-lower-holds-end : tie.Need-part-lower-holds-end
-part-lower-holds-end c = search needs
+part-lower-holds-end c = lent (c .before) .its-time-ends .within
 
 mul-lower-holds-2 : tie.Need-mul-lower-holds-2
-mul-lower-holds-2 c = search needs
+mul-lower-holds-2 c = lent (c .before .before) .its-times .bytes
 
 sub-lower-holds-2 : tie.Need-sub-lower-holds-2
-sub-lower-holds-2 c = search needs
+sub-lower-holds-2 c = lent (c .before .before) .its-times .ordered
 
 part-lower-holds-start-2 : tie.Need-part-lower-holds-start-2
-part-lower-holds-start-2 c = search needs
+part-lower-holds-start-2 c = lent (c .before .before) .its-times .ordered
 
 part-lower-holds-end-2 : tie.Need-part-lower-holds-end-2
-part-lower-holds-end-2 c = search needs
+part-lower-holds-end-2 c = lent (c .before .before) .its-times .within
 
 mul-lower-holds-3 : tie.Need-mul-lower-holds-3
-mul-lower-holds-3 c = search needs
+mul-lower-holds-3 c = lent (c .before .before .before) .its-diff-ends .bytes
 
 sub-lower-holds-3 : tie.Need-sub-lower-holds-3
-sub-lower-holds-3 c = search needs
+sub-lower-holds-3 c = lent (c .before .before .before) .its-diff-ends .ordered
 
 part-lower-holds-start-3 : tie.Need-part-lower-holds-start-3
-part-lower-holds-start-3 c = search needs
+part-lower-holds-start-3 c = lent (c .before .before .before) .its-diff-ends .ordered
 
 part-lower-holds-end-3 : tie.Need-part-lower-holds-end-3
-part-lower-holds-end-3 c = search needs
+part-lower-holds-end-3 c = lent (c .before .before .before) .its-diff-ends .within
 
 mul-lower-holds-4 : tie.Need-mul-lower-holds-4
-mul-lower-holds-4 c = search needs
+mul-lower-holds-4 c = lent (c .before .before .before .before) .its-diffs .bytes
 
 sub-lower-holds-4 : tie.Need-sub-lower-holds-4
-sub-lower-holds-4 c = search needs
+sub-lower-holds-4 c = lent (c .before .before .before .before) .its-diffs .ordered
 
 part-lower-holds-start-4 : tie.Need-part-lower-holds-start-4
-part-lower-holds-start-4 c = search needs
+part-lower-holds-start-4 c = lent (c .before .before .before .before) .its-diffs .ordered
 
 part-lower-holds-end-4 : tie.Need-part-lower-holds-end-4
-part-lower-holds-end-4 c = search needs
+part-lower-holds-end-4 c = lent (c .before .before .before .before) .its-diffs .within
 
 lower-holds-requires : tie.Need-lower-holds-requires
 lower-holds-requires c κs = search needs
@@ -127,28 +131,28 @@ returns c =
     refuted _ (λ p. no (and-both _ _ (and-both _ _ (p .diffEndsStep) (p .diffsStand)) (and-both _ _ (p .timeEndsRise) (p .timesRise))) (sym (lower (s .args .found) w (s .pre .0) _ (c .before .lower-holds .ensures)) ∙ not-true _ (c .if1 .taken)))
 
 mul-layer-rises : tie.Need-mul-layer-rises
-mul-layer-rises c = search needs
+mul-layer-rises c = lent (c .before .before .before .before .before .before .before) .its-val-ends .bytes
 
 sub-layer-rises : tie.Need-sub-layer-rises
-sub-layer-rises c = search needs
+sub-layer-rises c = lent (c .before .before .before .before .before .before .before) .its-val-ends .ordered
 
 part-layer-rises-start : tie.Need-part-layer-rises-start
-part-layer-rises-start c = search needs
+part-layer-rises-start c = lent (c .before .before .before .before .before .before .before) .its-val-ends .ordered
 
 part-layer-rises-end : tie.Need-part-layer-rises-end
-part-layer-rises-end c = search needs
+part-layer-rises-end c = lent (c .before .before .before .before .before .before .before) .its-val-ends .within
 
 mul-layer-rises-2 : tie.Need-mul-layer-rises-2
-mul-layer-rises-2 c = search needs
+mul-layer-rises-2 c = lent (c .before .before .before .before .before .before .before .before) .its-vals .bytes
 
 sub-layer-rises-2 : tie.Need-sub-layer-rises-2
-sub-layer-rises-2 c = search needs
+sub-layer-rises-2 c = lent (c .before .before .before .before .before .before .before .before) .its-vals .ordered
 
 part-layer-rises-start-2 : tie.Need-part-layer-rises-start-2
-part-layer-rises-start-2 c = search needs
+part-layer-rises-start-2 c = lent (c .before .before .before .before .before .before .before .before) .its-vals .ordered
 
 part-layer-rises-end-2 : tie.Need-part-layer-rises-end-2
-part-layer-rises-end-2 c = search needs
+part-layer-rises-end-2 c = lent (c .before .before .before .before .before .before .before .before) .its-vals .within
 
 layer-rises-requires : tie.Need-layer-rises-requires
 layer-rises-requires c κs = search needs
@@ -159,16 +163,16 @@ returns-2 c =
     refuted _ (λ p. no (and-both _ _ (p .valEndsRise) (p .valsRise)) (sym (vals (s .args .found) (s .args .words .now) (s .pre .0) _ (c .before .layer-rises .ensures)) ∙ not-true _ (c .if2 .taken)))
 
 mul-items-rise : tie.Need-mul-items-rise
-mul-items-rise c = search needs
+mul-items-rise c = lent (c .before .before .before .before .before .before .before .before .before .before .before) .its-keys .bytes
 
 sub-items-rise : tie.Need-sub-items-rise
-sub-items-rise c = search needs
+sub-items-rise c = lent (c .before .before .before .before .before .before .before .before .before .before .before) .its-keys .ordered
 
 part-items-rise-start : tie.Need-part-items-rise-start
-part-items-rise-start c = search needs
+part-items-rise-start c = lent (c .before .before .before .before .before .before .before .before .before .before .before) .its-keys .ordered
 
 part-items-rise-end : tie.Need-part-items-rise-end
-part-items-rise-end c = search needs
+part-items-rise-end c = lent (c .before .before .before .before .before .before .before .before .before .before .before) .its-keys .within
 
 items-rise-requires : tie.Need-items-rise-requires
 items-rise-requires c κs = search needs

@@ -5,7 +5,7 @@ use borrow.Author.Needs.{needs}
 use lib.ListN.{length, getD}
 use denote.Ref.{now}
 use Rattle.reports.proofs.Moving.{reading}
-use Rattle.laws.proofs.Lending.{Lending, lending}
+use Rattle.chunk.proofs.Lending.{Lending, lending}
 use Rattle.merge.proofs.Layering.{its-places, keys-room, KeysDone, keys-done, vals-room, ValsDone, vals-done, vals-past, times-room, times-done, times-length}
 use Rattle.merge.proofs.survey_layers.Statement.{statement}
 use Rattle.merge.proofs.survey_layers.Tie as tie

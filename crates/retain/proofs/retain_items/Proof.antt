@@ -1,7 +1,7 @@
 -- `retain::retain_items` meets its contract: the parts cut out are the bodies, and what is written of them is the chunk of what stays.
 use native.Mathlib.Omega.{arith}
 use Rattle.retain.proofs.Retained.{cut-bodies, cut-left, cut-over}
-use Rattle.laws.proofs.Lending.{Lending, lending}
+use Rattle.chunk.proofs.Lending.{Lending, lending}
 use borrow.Author.Needs.{needs}
 use Rattle.retain.proofs.retain_items.Statement.{statement}
 use Rattle.retain.proofs.retain_items.Tie as tie

@@ -94,8 +94,8 @@ add-ends-at-3 c = omega (arith, room (c .before .before .before .before .before 
 add-ends-at-4 : tie.Need-add-ends-at-4 Inv-loop μ-loop
 add-ends-at-4 c = omega (arith, room (c .before .before .before .before .before .before .before .before .before .before .before))
 
-add-diffs-at : tie.Need-add-diffs-at Inv-loop μ-loop
-add-diffs-at c = omega (arith, room (c .before .before .before .before .before .before .before .before .before .before .before))
+add-count-on : tie.Need-add-count-on Inv-loop μ-loop
+add-count-on c = omega (arith, room (c .before .before .before .before .before .before .before .before .before .before .before))
 
 mul-count-on : tie.Need-mul-count-on Inv-loop μ-loop
 mul-count-on c = omega (arith, room (c .before .before .before .before .before .before .before .before .before .before .before))
@@ -145,7 +145,7 @@ write-layers-spec =
     add-ends-at-2
     add-ends-at-3
     add-ends-at-4
-    add-diffs-at
+    add-count-on
     mul-count-on
     sub-count-on
     part-count-on-start

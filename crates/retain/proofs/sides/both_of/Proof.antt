@@ -2,7 +2,7 @@
 use Rattle.retain.specs.declared.Keep.the-variants.{Open, Shut}
 use Rattle.retain.proofs.Leaving.{ready}
 use Rattle.retain.proofs.Retained.{cut-bodies, cut-settled, cut-lists, rises-as}
-use Rattle.laws.proofs.Lending.{Lending, lending}
+use Rattle.chunk.proofs.Lending.{Lending, lending}
 use native.Mathlib.Omega.{arith}
 use Rattle.retain.proofs.sides.both_of.Statement.{statement}
 use Rattle.retain.proofs.sides.both_of.Tie as tie

@@ -1,7 +1,7 @@
 -- `retain::stay::lists_of` meets its contract: the parts cut out are the bodies.
 use mathlib.Core.Path.{sym}
 use Rattle.retain.proofs.Retained.{cut-bodies, cut-standing, rises-as}
-use Rattle.laws.proofs.Lending.{Lending, lending}
+use Rattle.chunk.proofs.Lending.{Lending, lending}
 use native.Mathlib.Omega.{arith}
 use Rattle.retain.proofs.stay.lists_of.Statement.{statement}
 use Rattle.retain.proofs.stay.lists_of.Tie as tie

@@ -1,7 +1,7 @@
 -- Ends that rise from above 0 to their own count are 1, 2 and so on: each list has one item, and each end is one more than the previous one.
 use Prim.Native.Nat.{ℕ, suc, _<_, _+_, _-_}
 use mathlib.Core.Path.{_≡_, refl, sym, _∙_, ap}
-use mathlib.Core.Bool.{Bool, true, false, _&&_, _||_}
+use mathlib.Core.Bool.{Bool, true, false, _&&_}
 use mathlib.Core.List.{List, [], _∷_}
 use native.Mathlib.Omega.{arith}
 use native.Mathlib.Numerals.{add-one}

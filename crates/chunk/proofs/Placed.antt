@@ -1,7 +1,7 @@
 -- A slice cut at the places of its contents gives its bodies, each as long as its count.
 use Prim.Native.Nat.{ℕ, _≤_, _+_, _*_, _-_}
-use mathlib.Core.Path.{_≡_, refl, sym, _∙_, ap}
-use mathlib.Core.Bool.{Bool, true, false, _&&_}
+use mathlib.Core.Path.{_≡_, refl}
+use mathlib.Core.Bool.{Bool, true, false}
 use mathlib.Core.List.{List}
 use native.Mathlib.Omega.{arith}
 use lib.ListN.{length, take, drop, length-drop}
@@ -11,7 +11,7 @@ use borrow.Author.Tests.{leb-true}
 use Rattle.chunk.specs.declared.Contents.{Contents}
 use Rattle.chunk.specs.Words.{body, nk, nv, nt, nd, size, tableSize, tableFits, keyBody, valEndBody, valBody, timeEndBody, timeBody, diffEndBody, diffBody}
 use Rattle.chunk.specs.Contents.{Placed, contentsOf, pick, layoutOf, noContents}
-use Rattle.chunk.proofs.Tests.{and-left, and-right, true-not-false}
+use Rattle.chunk.proofs.Tests.{and-left, and-right}
 
 -- the contents of a slice whose table fits are in their places
 pub placed : (w : List ℕ) → tableFits w ≡ true → Placed (contentsOf w) w

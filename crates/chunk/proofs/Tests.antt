@@ -1,9 +1,9 @@
 -- Tests taken apart, and the two orders of times as numbers.
-use Prim.Native.Nat.{ℕ, _<_, _≤_, _+_, _*_, _^_, _/_, _%_}
-use mathlib.Core.Path.{_≡_, refl, sym, _∙_}
+use Prim.Native.Nat.{ℕ, _<_, _≤_}
+use mathlib.Core.Path.{_≡_, refl, sym}
 use mathlib.Core.Bool.{Bool, true, false, _&&_, _||_}
 use native.Mathlib.Omega.{arith}
-use lib.Dec.{ltb, eqb, leb}
+use lib.Dec.{ltb, eqb}
 use borrow.Author.Tests.{lt-ltb, le-ltb, ltb-true, ltb-false, eqb-true, eqb-false}
 use Rattle.chunk.specs.Entry.{ignition, tick}
 use Rattle.chunk.specs.Time.{earlier}

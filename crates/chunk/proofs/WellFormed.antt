@@ -1,12 +1,12 @@
 -- Well formed, taken apart into its ten tests and put together again.
 use Prim.Native.Nat.{ℕ}
-use mathlib.Core.Path.{_≡_, refl, sym, _∙_}
-use mathlib.Core.Bool.{Bool, true, false, not, _&&_}
+use mathlib.Core.Path.{_≡_, sym}
+use mathlib.Core.Bool.{true, false, not}
 use mathlib.Core.List.{List}
 use lib.Dec.{leb, eqb}
 use Rattle.chunk.specs.Entry.{every}
 use Rattle.chunk.specs.Words.{wellFormed, tableFits, nk, nv, nt, nd, limit, allOrNone, endsRise, endsStep, rises, lists, keyBody, valEndBody, valBody, timeEndBody, timeBody, diffEndBody, diffBody}
-use Rattle.chunk.proofs.Tests.{by-test, and-left, and-right, and-both}
+use Rattle.chunk.proofs.Tests.{by-test, and-left, and-right}
 
 -- the ten tests of a well formed slice
 pub record Parts (w : List ℕ) : Type 0 where

@@ -1,12 +1,11 @@
 -- What a chunk says: a list of entries, each a position (truck, fault, time) and its change.
 -- A change is a signed 64-bit number in two's complement; the word 0 stands for "no change here", the empty diff list of document 01.
-use Prim.Native.Nat.{ℕ, zero, suc, _+_, _*_, _/_, _%_, _^_}
-use mathlib.Core.Bool.{Bool, true, false, not, cond, _&&_, _||_}
-use mathlib.Core.List.{List, [], _∷_, _++_, map, foldr}
-use lib.Dec.{leb, ltb, eqb}
-use lib.IntN.{ℤ, pos, negsuc, _+ℤ_}
-use lib.Signed.{leZ}
-use mir.Val.{toZ, ofZ}
+use Prim.Native.Nat.{ℕ, _/_, _%_, _^_}
+use mathlib.Core.Bool.{Bool, true, not, cond, _&&_, _||_}
+use mathlib.Core.List.{List, [], _∷_}
+use lib.Dec.{ltb, eqb}
+use lib.IntN.{ℤ}
+use mir.Val.{toZ}
 use mir.Syntax.{w64}
 
 -- a position and its change

@@ -1,7 +1,7 @@
 -- Document 01's refusals, as ordered tests. `first` is the first number whose test holds, 0 where none does.
 use Prim.Native.Nat.{ℕ, zero, suc}
-use mathlib.Core.Bool.{Bool, true, false, not, cond}
-use mathlib.Core.List.{List, [], _∷_, _++_}
+use mathlib.Core.Bool.{Bool, not, cond}
+use mathlib.Core.List.{List, [], _∷_}
 use Rattle.chunk.specs.Entry.{Entry}
 use Rattle.chunk.specs.Bodies.{chunkOf}
 use Rattle.chunk.specs.Words.{wellFormed, settled, nt, over}

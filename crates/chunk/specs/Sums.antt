@@ -1,13 +1,13 @@
 -- Changes as whole numbers, and what a list of entries says at a position.
-use Prim.Native.Nat.{ℕ, zero, suc, _^_}
-use mathlib.Core.Bool.{Bool, true, false, cond, _&&_}
+use Prim.Native.Nat.{ℕ, _^_}
+use mathlib.Core.Bool.{Bool, cond, _&&_}
 use mathlib.Core.List.{List, [], _∷_}
 use lib.Dec.{ltb, eqb}
 use lib.IntN.{ℤ, pos, _+ℤ_}
 use lib.Signed.{mag}
 use mir.Val.{ofZ}
 use mir.Syntax.{w64}
-use Rattle.chunk.specs.Entry.{Entry, change, same}
+use Rattle.chunk.specs.Entry.{Entry, change}
 
 -- the word of the sum of two changes, where it fits
 abbrev pub plus : ℕ → ℕ → ℕ

@@ -1,7 +1,7 @@
 // Times, with their diff ends and diffs read side by side, so that their words come in at once.
 ghost use mathlib.Core.Path.{_≡_};
 ghost use mathlib.Core.Bool.{_&&_};
-ghost use Prim.Native.Nat.{ℕ, _≤_, _<_};
+ghost use Prim.Native.Nat.{_≤_, _<_};
 ghost use Rattle.chunk.specs.Beside.{changesHold, Beside, LookFrom};
 ghost use Rattle.chunk.specs.Entry.{every};
 ghost use Rattle.chunk.specs.Words.{rises, endsRise, lists};
@@ -12,7 +12,7 @@ use crate::falls_at;
 use crate::part_end;
 use crate::steps;
 
-// What a look over times finds: how many of them are falls, whether the changes beside them hold, and how many diffs have ended.
+// What a look over times finds: how many of them are falls, the first counted as one; whether the changes beside them hold; and how many diffs have ended.
 struct Seen {
     fell: usize,
     good: bool,

@@ -1,5 +1,5 @@
 ghost use mathlib.Core.Path.{_≡_};
-ghost use Prim.Native.Nat.{ℕ, suc, _≤_, _<_, _^_};
+ghost use Prim.Native.Nat.{suc, _≤_, _<_, _^_};
 ghost use Rattle.chunk.specs.Contents.{contentsOf, layoutOf, noContents, layoutWithin, withTable, childRange, Placed};
 ghost use Rattle.chunk.specs.Time.{earlier, atOrBelow};
 ghost use Rattle.chunk.specs.Check.{checkedOf};
@@ -7,7 +7,7 @@ ghost use Rattle.chunk.specs.Entry.{every};
 ghost use Rattle.chunk.specs.Words.{rises, endsRise, endsStep, lists, allOrNone, wellFormed};
 ghost use Rattle.chunk.specs.Falls.{fall, fallsOf, fallsAt, Ahead};
 ghost use Rattle.chunk.specs.Rows.{countsUp, Rows, Level, Counted};
-ghost use mathlib.Core.Bool.{true, not, _&&_, _||_};
+ghost use mathlib.Core.Bool.{true, _&&_, _||_};
 ghost use lib.Dec.{eqb};
 ghost use lib.ListN.{length};
 ghost use Rattle.chunk.specs.Beside.{standing, changesHold};

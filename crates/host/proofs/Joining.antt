@@ -1,9 +1,8 @@
 -- A merge in words: the survivor that goes out, and the ways that the merge beneath goes.
 use Prim.Native.Nat.{ℕ, zero, suc, _≤_, _<_}
 use mathlib.Core.Path.{_≡_, refl, sym, _∙_, ap}
-use mathlib.Core.Bool.{Bool, true, false, cond}
-use mathlib.Core.List.{List, [], _∷_}
-use lib.Dec.{ltb}
+use mathlib.Core.Bool.{Bool, cond}
+use mathlib.Core.List.{List}
 use lib.ListN.{length}
 use borrow.Author.Tests.{lt-ltb, le-ltb}
 use Rattle.chunk.specs.Words.{over, entries}
@@ -11,7 +10,6 @@ use Rattle.merge.specs.declared.Survivor.{Survivor}
 use Rattle.merge.specs.declared.Joined.{Joined}
 use Rattle.reports.specs.Merge.{Survives, survivor, mergeNumber, mergeOut}
 use Rattle.merge.specs.Outcome.{survivorOf, answerBy, mergeAnswer, MergeAnswers}
-use Rattle.reports.specs.Refusals.{Refused}
 use Rattle.whole.specs.Whole.{wholeNumber, cleanOut, leftOut, WholeAnswers}
 use Rattle.host.specs.Answers.{numberIn, laidBy, Answers}
 use Rattle.host.specs.Merges.{survivorWords, leftWords, onceLent, Said, PairAnswers, AllAnswers}

@@ -1,7 +1,7 @@
 -- An extract in words: the frontier that comes in, the answer that goes out, and the ways that the extract beneath goes.
 use Prim.Native.Nat.{ℕ, zero, suc, _≤_, _<_}
 use mathlib.Core.Path.{_≡_, refl, sym, _∙_, ap}
-use mathlib.Core.List.{List, [], _∷_, _++_, append-nil}
+use mathlib.Core.List.{List, [], _∷_, append-nil}
 use native.Mathlib.Omega.{arith}
 use lib.ListN.{length, take, drop, set, drop-of-length-le, length-drop}
 use lib.Seq.{take-all, length-take-le}
@@ -11,10 +11,9 @@ use Rattle.chunk.specs.Words.{over, entries}
 use Rattle.meld.specs.Copy.{copied}
 use Rattle.retain.specs.declared.Frontier.{Frontier}
 use Rattle.retain.specs.declared.Extracted.{Extracted}
-use Rattle.retain.specs.Extract.{keptOut, shippedOut}
 use Rattle.retain.specs.Answer.{extractedAs, Extraction}
 use Rattle.host.specs.Answers.{laidBy}
-use Rattle.host.specs.Extracts.{frontierIn, answerWords, numberUnder, extractedUnder, ExtractAnswers}
+use Rattle.host.specs.Extracts.{frontierIn, answerWords, numberUnder, ExtractAnswers}
 use Rattle.host.proofs.Laid.{short-first, short-second, short-none, kept-by}
 
 -- a copy over as many words

@@ -16,7 +16,7 @@ use Rattle.reports.proofs.Ranges.{pair-none}
 use Rattle.survey.specs.declared.Report.{Report}
 use Rattle.survey.specs.declared.Next.{Next}
 use Rattle.survey.specs.declared.Surveyed.{Surveyed}
-use Rattle.survey.specs.Reports.{recordOf, nextIn, nextBy, keysOf, countFor, surveyedOf}
+use Rattle.survey.specs.Reports.{recordOf, nextIn, keysOf, countFor, surveyedOf}
 use Rattle.survey.proofs.Nexts.{Turn, turn, pair-whole}
 use Rattle.survey.proofs.Plans.{taken-keys, Accepted, accepted}
 use Rattle.survey.proofs.Fills.{count-room}

@@ -10,7 +10,6 @@ use Rattle.chunk.specs.declared.Checked.{Checked}
 use Rattle.chunk.specs.Check.{checkedOf}
 use Rattle.chunk.specs.Words.{over}
 use Rattle.walk.specs.declared.Walker.{Walker}
-use Rattle.walk.specs.declared.Started.{Started}
 use Rattle.walk.specs.Answer.{startedOf}
 
 -- a call's number, or 13 where the slice for its answer has fewer words than the answer

@@ -1,12 +1,12 @@
 -- The words of seven bodies behind their table, and the bodies read from words: one is the other's inverse.
-use Prim.Native.Nat.{ℕ, zero, suc, _+_, _*_, _≤_, _<_}
+use Prim.Native.Nat.{ℕ, zero, suc, _+_, _*_, _≤_}
 use mathlib.Core.Path.{_≡_, refl, sym, ap, _∙_}
 use mathlib.Core.Bool.{true, false}
 use mathlib.Core.List.{List, [], _∷_, _++_, append-assoc}
 use native.Mathlib.Omega.{arith}
-use lib.Dec.{leb, ltb, eqb}
-use lib.ListN.{length, take, drop, length-append, length-drop}
-use lib.Seq.{take-at, drop-at, take-add, drop-drop, length-take-le}
+use lib.Dec.{leb, eqb}
+use lib.ListN.{length, take, drop, length-append}
+use lib.Seq.{take-at, drop-at, take-add, drop-drop}
 use borrow.Author.Tests.{leb-true, le-leb, eqb-true, ne-eqb, lt-ltb}
 use Rattle.chunk.specs.Entry.{every}
 use Rattle.chunk.specs.Words.{nk, nv, nt, nd, tableSize, size, tableFits, body, keyBody, valEndBody, valBody, timeEndBody, timeBody, diffEndBody, diffBody, lists, endsRise, endsStep, rises, limit, allOrNone, wellFormed}
@@ -14,7 +14,7 @@ use Rattle.chunk.specs.Contents.{contentsOf}
 pub use Rattle.chunk.proofs.WellFormed.{Parts, parts, whole}
 use Rattle.chunk.proofs.Placed as placed
 use Rattle.chunk.proofs.Falling.{capped}
-use Rattle.laws.proofs.Tests.{and-left, and-right, and-both}
+use Rattle.laws.proofs.Tests.{and-left, and-both}
 use Rattle.laws.proofs.Cuts.{nonzero}
 use Rattle.laws.proofs.Layers.{Seven}
 use Rattle.laws.proofs.Shape.{Formed}

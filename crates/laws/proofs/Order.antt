@@ -1,13 +1,13 @@
 -- The order of positions is a strict total order, with `same` for equal; and what rising lists have from it.
 use Prim.Native.Nat.{ℕ, _<_, _≤_}
 use mathlib.Core.Path.{_≡_, refl, sym, _∙_}
-use mathlib.Core.Bool.{Bool, true, false, cond, not, _&&_, _||_}
+use mathlib.Core.Bool.{Bool, true, false, _&&_, _||_}
 use mathlib.Core.List.{List, [], _∷_}
 use native.Mathlib.Omega.{arith}
 use lib.Dec.{ltb, eqb}
-use borrow.Author.Tests.{lt-ltb, le-ltb, ltb-true, ltb-false, eqb-true, eqb-false, eq-eqb, ne-eqb}
+use borrow.Author.Tests.{lt-ltb, ltb-true, ltb-false, eqb-true, eq-eqb}
 use Rattle.chunk.specs.Entry.{Entry, before, same, sameList, rising, risingFrom, every, keep}
-use Rattle.chunk.proofs.Tests.{by-test, and-false, and-left, and-right, and-both, true-not-false}
+use Rattle.chunk.proofs.Tests.{by-test, and-left, and-right, and-both, true-not-false}
 
 -- how two positions stand to each other
 pub data Compared (a b : Entry) : Type 0 where

@@ -1,9 +1,9 @@
 -- One chunk (document 01): for each list of at most 1,048,576 strictly rising positions with non-zero diffs there is one settled chunk.
 -- Each statement is a type here, and a theorem under the same words in `proofs/OneChunk.antt`.
 use Prim.Native.Nat.{ℕ, _≤_, _^_}
-use mathlib.Core.Bool.{Bool, true, false}
+use mathlib.Core.Bool.{Bool, true}
 use mathlib.Core.Path.{_≡_}
-use mathlib.Core.List.{List, [], _∷_, _++_}
+use mathlib.Core.List.{List, _++_}
 use lib.Dec.{ltb}
 use lib.ListN.{length, take}
 use Rattle.chunk.specs.Entry.{Entry, rising, stands, every}

@@ -1,10 +1,9 @@
 -- The surveys of three layers fit the scratch that is asked for, and each is read as it was written.
-use Prim.Native.Nat.{ℕ, zero, suc, _+_, _-_, _*_, _/_, _<_, _≤_}
+use Prim.Native.Nat.{ℕ, suc, _+_, _-_, _*_, _/_, _≤_}
 use mathlib.Core.Path.{_≡_, refl, sym, _∙_, ap}
-use mathlib.Core.Bool.{Bool, true, false}
 use mathlib.Core.List.{List, [], _∷_, _++_}
 use native.Mathlib.Omega.{arith}
-use lib.ListN.{length, take, drop}
+use lib.ListN.{length}
 use lib.Seq.{take-length}
 use Rattle.chunk.specs.Entry.{Entry}
 use Rattle.chunk.specs.Words.{entries, rises}
@@ -22,7 +21,6 @@ use Rattle.reports.specs.Scratch.{placed, reportWords, reportsAt, pairOf, PairR
 use Rattle.reports.specs.Read.{Read}
 use Rattle.reports.specs.Layers.{keySurvey, valSurvey, timeSurvey, LayersRoom}
 use Rattle.merge.specs.Surveyed.{LayersSurveyed}
-use Rattle.merge.specs.declared.Surveys.{Surveys}
 use Rattle.reports.proofs.Galloping.{length-between}
 use Rattle.reports.proofs.Placing.{length-placed}
 use Rattle.reports.proofs.Words.{length-words, placed-more}

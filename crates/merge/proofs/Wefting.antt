@@ -1,7 +1,7 @@
 -- The chunk of the entries that reports of times name, written layer by layer: each writer has what it asks for, and what they leave is the chunk.
 use Prim.Native.Nat.{ℕ, zero, suc, _+_, _-_, _*_, _^_, _<_, _≤_}
 use mathlib.Core.Path.{_≡_, refl, sym, _∙_, ap}
-use mathlib.Core.Bool.{Bool, true, false}
+use mathlib.Core.Bool.{Bool, true}
 use mathlib.Core.List.{List, [], _∷_, _++_, append-assoc}
 use native.Mathlib.Omega.{arith}
 use native.Mathlib.Nat.{zero-add}
@@ -14,24 +14,23 @@ use Rattle.laws.proofs.OneChunk.{settled-stands}
 use Rattle.chunk.specs.Entry.{Entry, stands, every, sameList}
 use Rattle.chunk.specs.Bodies.{chunkOf, lastsOf, endsOf, sameKey, keys, vals, times, diffs, valEnds, timeEnds, diffEnds}
 use Rattle.chunk.specs.Words.{entries, over, limit, tableSize, endsRise}
-use Rattle.chunk.specs.Contents.{layoutOf, layoutWithin, withTable, tableOf}
+use Rattle.chunk.specs.Contents.{layoutWithin, withTable, tableOf}
 use Rattle.chunk.specs.declared.Contents.{Contents}
 use Rattle.meld.proofs.Append.{raised}
-use Rattle.meld.proofs.Counts.{val-ends-count, time-ends-count, diff-ends-count, times-count, keys-fewer, vals-fewer, diffs-fewer}
+use Rattle.meld.proofs.Counts.{val-ends-count, time-ends-count, diff-ends-count, times-count, keys-fewer, diffs-fewer}
 use Rattle.merge.specs.declared.Spans.{Spans}
-use Rattle.reports.specs.Survey.{Report, this, that, both}
+use Rattle.reports.specs.Survey.{Report}
 use Rattle.reports.specs.Gallop.{between}
-use Rattle.reports.specs.Scratch.{placed, reportsAt}
-use Rattle.reports.specs.Read.{Read, Within}
-use Rattle.reports.specs.Write.{itemsBy, entriesBy, width, widths, Serves, AllServe, AllSome, Upward, Found, Counting, RunsRoom, EndsRoom, DiffsRoom, endsBy, diffsBy, diffEndsBy, layerBy}
-use Rattle.reports.specs.Layered.{Layered, BodiesBy}
+use Rattle.reports.specs.Scratch.{placed}
+use Rattle.reports.specs.Read.{Within}
+use Rattle.reports.specs.Write.{itemsBy, entriesBy, widths, AllServe, Found, Counting, RunsRoom, EndsRoom, DiffsRoom, diffsBy, diffEndsBy, layerBy}
+use Rattle.reports.specs.Layered.{BodiesBy}
 use Rattle.merge.specs.Weft.{Weft, keyReports, valReports, timeReports, named}
-use Rattle.reports.specs.Whole.{Whole, placesFor, upperOf, middleOf, lowerOf}
+use Rattle.reports.specs.Whole.{placesFor, upperOf, middleOf, lowerOf}
 use Rattle.reports.proofs.Placing.{placed-twice, length-placed}
-use Rattle.reports.proofs.Galloping.{getD-between, length-between}
 use Rattle.reports.proofs.Moving.{Reading, reading}
 use Rattle.reports.proofs.WriteRuns.{length-named}
-use Rattle.reports.proofs.WriteUnder.{found, under-serves, under-some, serves-upward, inside-serves, inside-some}
+use Rattle.reports.proofs.WriteUnder.{found, under-serves, under-some, serves-upward, inside-serves}
 use Rattle.reports.proofs.WriteEntries.{times-by, diffs-by, diffs-all}
 use Rattle.reports.proofs.WriteDiffEnds.{settled-rise, diff-ends-by}
 use Rattle.reports.proofs.Rows.{rows-of, rows-rise}

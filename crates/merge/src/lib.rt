@@ -1,7 +1,7 @@
 ghost use mathlib.Core.Path.{_≡_};
 ghost use mathlib.Core.Bool.{true, false};
-ghost use mathlib.Core.List.{[], _∷_, _++_};
-ghost use Prim.Native.Nat.{_≤_, _<_, _+_, _*_, _-_, _^_};
+ghost use mathlib.Core.List.{[], _∷_};
+ghost use Prim.Native.Nat.{_≤_, _<_, _+_, _*_, _-_};
 ghost use lib.ListN.{length, drop, getD};
 ghost use Rattle.chunk.specs.Words.{entries, over};
 ghost use Rattle.chunk.specs.Bodies.{chunkOf};
@@ -13,9 +13,9 @@ ghost use Rattle.reports.specs.Run.{partOf, runOf};
 ghost use Rattle.merge.specs.Outcome.{MergeAnswers};
 ghost use Rattle.reports.specs.Layers.{LayersRoom};
 ghost use Rattle.merge.specs.Surveyed.{LayersSurveyed};
-ghost use Rattle.reports.specs.Gallop.{belowAt, settled, Doubled, Reached, Rises, runEnd};
+ghost use Rattle.reports.specs.Gallop.{belowAt, settled, Reached, Rises, runEnd};
 ghost use Rattle.merge.specs.Strode.{Strode};
-ghost use Rattle.reports.specs.Survey.{this, that, both};
+ghost use Rattle.reports.specs.Survey.{both};
 ghost use Rattle.reports.specs.Scratch.{placed, wordsOf, report, reportWords, stepReport, PairRoom, pairOf, OneRoom, SurveyRoom, surveyOf, surveyed, reportsAt};
 ghost use Rattle.merge.specs.Spots.{spotAfter};
 

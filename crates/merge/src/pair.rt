@@ -1,8 +1,8 @@
 ghost use mathlib.Core.Path.{_≡_};
 ghost use mathlib.Core.Bool.{true, false, not};
-ghost use mathlib.Core.List.{[], _∷_, _++_};
+ghost use mathlib.Core.List.{[], _∷_};
 ghost use Prim.Native.Nat.{_≤_, _<_, _+_, _-_, _*_, _/_};
-ghost use lib.ListN.{length, drop};
+ghost use lib.ListN.{length};
 ghost use Rattle.chunk.specs.Words.{entries};
 ghost use Rattle.chunk.specs.Sums.{sumFits};
 ghost use Rattle.reports.specs.Merge.{placeAt, nobody, overflows};

@@ -1,20 +1,20 @@
 -- The reports of a layer name each of its items once and in order, so they are the lists of the next; and reports written are reports read.
-use Prim.Native.Nat.{ℕ, zero, suc, _+_, _-_, _*_, _<_, _≤_}
+use Prim.Native.Nat.{ℕ, zero, suc, _+_, _-_, _<_, _≤_}
 use mathlib.Core.Path.{_≡_, refl, sym, _∙_, ap}
-use mathlib.Core.Bool.{Bool, true, false, cond, _&&_}
-use mathlib.Core.List.{List, [], _∷_, _++_, append-assoc, append-nil}
+use mathlib.Core.Bool.{true}
+use mathlib.Core.List.{List, [], _∷_, _++_, append-assoc}
 use native.Mathlib.Omega.{arith}
-use native.Mathlib.Nat.{add-zero, add-suc}
+use native.Mathlib.Nat.{add-zero}
 use lib.Dec.{ltb, eqb}
-use lib.ListN.{length, getD, take, drop, length-append, length-drop, length-take}
-use lib.Seq.{getD-append-add, getD-append-seam, drop-drop}
+use lib.ListN.{length, getD, take, drop, length-append, length-drop}
+use lib.Seq.{getD-append-add, drop-drop}
 use borrow.Author.Tests.{lt-ltb, ltb-true, ltb-false, eqb-false, eqb-true}
 use Rattle.laws.proofs.Tests.{by-test, and-left, and-right}
 use Rattle.chunk.specs.Entry.{every}
 use Rattle.chunk.specs.Words.{endsRise, rises, lists}
 use Rattle.chunk.specs.Contents.{startOf}
 use Rattle.reports.specs.Survey.{Report, this, that, both, below, restOf, reportsFrom}
-use Rattle.reports.specs.Gallop.{between, Rises}
+use Rattle.reports.specs.Gallop.{between}
 use Rattle.reports.specs.Scratch.{placed, wordsOf, reportWords, report, reportAt, reportsAt, pairOf, surveyOf, surveyed, Layer, Covers}
 use Rattle.reports.proofs.Galloping.{length-between}
 use Rattle.reports.proofs.Surveying.{starts-apart, start-within, start-up}

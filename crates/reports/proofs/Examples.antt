@@ -1,5 +1,5 @@
 -- The yard examples of merge and suffix hold by computation.
-use mathlib.Core.Path.{_≡_, refl}
+use mathlib.Core.Path.{refl}
 use Rattle.reports.specs.Merge.{mergeNumber, mergeOut, survivor, insertAdd, suffixNumber, suffixOut}
 use Rattle.chunk.specs.Words.{entries, wellFormed}
 use Rattle.chunk.specs.Bodies.{chunkOf, lastsOf, endsOf, diffEndsFrom}

@@ -1,7 +1,7 @@
 -- Surveys without the runs of one input that they end with: what is left lies under what is left of the survey above, in its place and no more.
-use Prim.Native.Nat.{ℕ, zero, suc, _+_, _-_, _<_, _≤_}
+use Prim.Native.Nat.{ℕ, suc, _+_, _-_, _<_, _≤_}
 use mathlib.Core.Path.{_≡_, refl, sym, _∙_, ap}
-use mathlib.Core.Bool.{Bool, true, false, cond, _&&_, _||_}
+use mathlib.Core.Bool.{Bool, true, false, _&&_, _||_}
 use mathlib.Core.List.{List, [], _∷_, _++_, append-nil}
 use native.Mathlib.Omega.{arith}
 use lib.ListN.{length, getD}
@@ -9,7 +9,7 @@ use Rattle.laws.proofs.Tests.{by-test, and-false, true-not-false}
 use Rattle.chunk.specs.Contents.{startOf}
 use Rattle.reports.specs.Survey.{Report, this, that, both}
 use Rattle.reports.specs.Scratch.{pairOf, surveyOf, surveyed, Layer, Covers}
-use Rattle.reports.specs.Write.{Run, Inside, Shared, Under, ended, first, second, shared, width, widths, AllServe, AllSome}
+use Rattle.reports.specs.Write.{Run, Inside, Under, ended, first, second, shared, widths, AllServe, AllSome}
 use Rattle.reports.proofs.Covering.{pair-covers}
 use Rattle.reports.proofs.Surveying.{starts-apart, start-within}
 use Rattle.reports.specs.Tail.{onlyThis, onlyThat, trimmed}

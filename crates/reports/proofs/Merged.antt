@@ -1,23 +1,21 @@
 -- The theorems of `specs/Theorems.antt`: what a merge keeps, and that the definition by L is the plain two-pointer merge.
-use Prim.Native.Nat.{ℕ, zero, suc, _+_, _<_, _≤_, _^_}
+use Prim.Native.Nat.{ℕ, suc, _+_, _<_, _≤_}
 use mathlib.Core.Path.{_≡_, refl, sym, _∙_, ap}
 use mathlib.Core.Bool.{Bool, true, false, not, cond, _&&_, _||_}
 use mathlib.Core.List.{List, [], _∷_, _++_}
 use native.Mathlib.Omega.{arith}
-use lib.Dec.{ltb, eqb}
-use lib.ListN.{length, take, drop, length-append}
+use lib.Dec.{eqb}
+use lib.ListN.{length, drop}
 use lib.IntN.{ℤ, pos, _+ℤ_, +ℤ-comm, +ℤ-assoc, +ℤ-idl}
 use borrow.Author.Tests.{lt-ltb, eq-eqb, ltb-true, not-true, not-false}
-use mir.Val.{ofZ, toZ, SFits}
 use mir.Facts.{toZ-ofZ}
-use mir.Syntax.{w64}
 use Rattle.chunk.specs.Entry.{Entry, before, same, rising, risingFrom, every, keep, change}
-use Rattle.chunk.specs.Sums.{plus, sumFits, withDiff, total}
-use Rattle.reports.specs.Merge.{insertAdd, union, lastOr, lastOf, lesserLast, upTo, merged, Place, placeAt, survivor, Survives, nobody, theFirst, theSecond, overflowsAt, overflows, soundAt}
+use Rattle.chunk.specs.Sums.{plus, sumFits, total}
+use Rattle.reports.specs.Merge.{insertAdd, union, lastOr, lastOf, lesserLast, upTo, merged, placeAt, survivor, nobody, theFirst, theSecond, overflowsAt, overflows, soundAt}
 use Rattle.reports.specs.Theorems.{walked, whole, plain, summed, leftOf, Sound, SoundOf, swapped, MergedRises, MergedShort, MergedThenLeft, TotalsKept, SurvivorSound, MergedCommutes, SurvivorCommutes, MergedIsPlain}
 use Rattle.laws.proofs.Tests.{by-test, and-left, and-right, and-both, true-not-false}
-use Rattle.laws.proofs.Order.{before-trans, before-asym, before-irrefl, before-not-same, same-sym, same-before, before-same, same-parts, parts-same, Same, Compared, less, equal, more, compared, rising-tail, rising-all, all-rising, keep-rising}
-use Rattle.reports.proofs.Walked.{side-by-side, walked-less, walked-more, walked-same, whole-nil, union-whole, whole-swapped, every-whole}
+use Rattle.laws.proofs.Order.{before-trans, before-asym, before-irrefl, before-not-same, same-sym, same-before, before-same, same-parts, Same, Compared, less, equal, more, compared, rising-tail, rising-all, all-rising, keep-rising}
+use Rattle.reports.proofs.Walked.{side-by-side, walked-less, walked-more, walked-same, union-whole, whole-swapped}
 
 -- a disjunction that fails
 or-left : (a b : Bool) → (a || b) ≡ false → a ≡ false

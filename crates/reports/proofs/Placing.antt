@@ -1,12 +1,12 @@
 -- Words placed over others: lengths, what stands before and past them, and one placing after another.
-use Prim.Native.Nat.{ℕ, zero, suc, _+_, _-_, _*_, _<_, _≤_}
-use mathlib.Core.Path.{_≡_, refl, sym, _∙_, ap}
+use Prim.Native.Nat.{ℕ, _+_, _-_, _<_, _≤_}
+use mathlib.Core.Path.{_≡_, sym, _∙_, ap}
 use mathlib.Core.List.{List, [], _∷_, _++_, append-assoc}
 use native.Mathlib.Omega.{arith}
 use native.Mathlib.Numerals.{add-one, add-two}
 use native.Mathlib.Nat.{add-zero}
 use lib.ListN.{length, getD, take, drop, set, length-append, length-take, length-drop, take-append-drop, List·getD-append}
-use lib.Seq.{sets-eq, take-at, drop-at, drop-drop, length-take-le, getD-take, take-append-le, take-take, drop-append-add, take-append-add}
+use lib.Seq.{sets-eq, take-at, drop-at, drop-drop, getD-take}
 use Rattle.reports.specs.Scratch.{placed}
 
 module _ (at : ℕ) (s : List ℕ) where

@@ -1,13 +1,12 @@
 -- The answers of `suffix_chunk`: each refusal in its order, and the chunk that is written where there is none.
-use Prim.Native.Nat.{ℕ, zero, suc, _<_, _≤_}
-use mathlib.Core.Path.{_≡_, refl, sym, _∙_, ap}
-use mathlib.Core.Bool.{Bool, true, false, not, cond}
-use mathlib.Core.List.{List, [], _∷_}
+use Prim.Native.Nat.{ℕ, suc, _<_, _≤_}
+use mathlib.Core.Path.{_≡_, sym, _∙_, ap}
+use mathlib.Core.Bool.{Bool, true, false}
+use mathlib.Core.List.{List}
 use native.Mathlib.Omega.{arith}
-use lib.Dec.{ltb, eqb}
 use lib.ListN.{length, drop}
 use borrow.Author.Tests.{lt-ltb, le-ltb, eq-eqb, ne-eqb}
-use Rattle.laws.proofs.Tests.{by-test, true-not-false}
+use Rattle.laws.proofs.Tests.{by-test}
 use Rattle.chunk.specs.Words.{wellFormed, settled, entries, size, nt, over}
 use Rattle.chunk.specs.Bodies.{chunkOf}
 use Rattle.chunk.specs.Refusal.{first, written}

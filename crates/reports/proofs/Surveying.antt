@@ -1,11 +1,10 @@
 -- The survey of a layer, report by report: what one becomes, that the items of the lists bound it, and the loop over all of them.
 use Prim.Native.Nat.{ℕ, zero, suc, _+_, _-_, _*_, _<_, _≤_}
 use mathlib.Core.Path.{_≡_, refl, sym, _∙_, ap}
-use mathlib.Core.Bool.{Bool, true, false, cond, _&&_}
+use mathlib.Core.Bool.{true}
 use mathlib.Core.List.{List, [], _∷_, _++_, append-assoc, append-nil}
 use native.Mathlib.Omega.{arith}
-use native.Mathlib.Numerals.{sub-one}
-use lib.Dec.{ltb, eqb}
+use lib.Dec.{ltb}
 use lib.ListN.{length, getD, length-append}
 use borrow.Author.Tests.{lt-ltb, ltb-true, eqb-true}
 use Rattle.laws.proofs.Tests.{and-left, and-right}
@@ -13,8 +12,7 @@ use Rattle.chunk.specs.Words.{endsRise}
 use Rattle.chunk.specs.Contents.{startOf, childRange}
 use Rattle.chunk.specs.declared.Range.{Range}
 use Rattle.reports.specs.Survey.{Report, this, that, both}
-use Rattle.reports.specs.Gallop.{Rises}
-use Rattle.reports.specs.Scratch.{placed, wordsOf, reportWords, report, reportAt, reportsAt, pairOf, PairRoom, surveyOf, surveyed, Layer, Covers, Named, weight, OneRoom, SurveyRoom}
+use Rattle.reports.specs.Scratch.{placed, reportWords, report, reportAt, reportsAt, pairOf, PairRoom, surveyOf, surveyed, Layer, Covers, Named, weight, OneRoom, SurveyRoom}
 use Rattle.reports.proofs.Placing.{placed-none, placed-before, length-placed}
 use Rattle.reports.proofs.Ranges.{pair-count}
 use Rattle.reports.proofs.Words.{length-words, placed-more}

@@ -1,18 +1,16 @@
 -- Two rising lists walked side by side: the steps, induction along them, and that the walk to the end of both is `union`.
-use Prim.Native.Nat.{ℕ, zero, suc, _+_, _<_, _≤_}
+use Prim.Native.Nat.{_+_}
 use mathlib.Core.Path.{_≡_, refl, sym, _∙_, ap}
-use mathlib.Core.Bool.{Bool, true, false, not, cond, _&&_, _||_}
-use mathlib.Core.List.{List, [], _∷_, _++_}
-use native.Mathlib.Omega.{arith}
-use lib.ListN.{length}
-use lib.IntN.{ℤ, +ℤ-comm}
+use mathlib.Core.Bool.{Bool, true}
+use mathlib.Core.List.{List, [], _∷_}
+use lib.IntN.{+ℤ-comm}
 use mir.Val.{ofZ}
 use mir.Syntax.{w64}
-use Rattle.chunk.specs.Entry.{Entry, before, same, rising, risingFrom, every, change}
-use Rattle.chunk.specs.Sums.{plus, withDiff}
+use Rattle.chunk.specs.Entry.{Entry, before, same, rising, every, change}
+use Rattle.chunk.specs.Sums.{plus}
 use Rattle.reports.specs.Merge.{insertAdd, union}
 use Rattle.reports.specs.Theorems.{walked, whole, summed}
-use Rattle.laws.proofs.Tests.{by-test, and-left, and-right, and-both, true-not-false}
+use Rattle.laws.proofs.Tests.{and-left, and-right, and-both}
 use Rattle.laws.proofs.Order.{before-trans, before-asym, before-irrefl, before-not-same, same-sym, same-before, before-same, same-parts, Same, Compared, less, equal, more, compared, rising-tail, rising-all}
 
 -- what holds where either list is empty, and at two heads where it holds past one head, past the other, and past both, holds of every two lists

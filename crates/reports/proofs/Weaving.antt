@@ -1,7 +1,7 @@
 -- Lists that are woven have their items woven by the survey of the next layer; so the surveys of keys, values and times weave two rising lists.
 use Prim.Native.Nat.{ℕ, zero, suc, _-_, _<_, _≤_}
 use mathlib.Core.Path.{_≡_, refl, sym, _∙_, ap, subst}
-use mathlib.Core.Bool.{Bool, true, false, cond, _&&_, _||_}
+use mathlib.Core.Bool.{Bool, true, false, _&&_, _||_}
 use mathlib.Core.List.{List, [], _∷_, map, append-nil}
 use native.Mathlib.Omega.{arith}
 use lib.Dec.{ltb, eqb}
@@ -16,7 +16,7 @@ use Rattle.reports.specs.Scratch.{surveyOf, surveyed}
 use Rattle.reports.specs.Layers.{keySurvey, valSurvey, timeSurvey}
 use Rattle.reports.specs.Orders.{keyLess, valLess}
 use Rattle.reports.specs.Woven.{noEntry, Woven}
-use Rattle.reports.proofs.Groupings.{Equal, Ordered, Steps, length-ends, some-ends, head-last, own-end, start-in, starts-rise, start-last, Inside, inside, last-same, thenBy, alsoBy, lasts-step}
+use Rattle.reports.proofs.Groupings.{Equal, Ordered, Steps, length-ends, own-end, start-in, starts-rise, start-last, Inside, inside, last-same, thenBy, alsoBy, lasts-step}
 use Rattle.reports.proofs.Pairing.{run-ahead, ahead-run, Meet, pair-woven}
 use Rattle.reports.proofs.Bodies.{lasts-lasts}
 

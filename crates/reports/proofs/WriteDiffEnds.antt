@@ -1,16 +1,16 @@
 -- The diff ends that are written are those of the entries that the reports of times name, where both inputs are settled.
-use Prim.Native.Nat.{ℕ, zero, suc, _+_, _-_, _*_, _^_, _%_, _<_, _≤_}
+use Prim.Native.Nat.{ℕ, zero, suc, _+_, _-_, _^_, _%_, _<_, _≤_}
 use mathlib.Core.Path.{_≡_, refl, sym, _∙_, ap}
-use mathlib.Core.Bool.{Bool, true, false, cond, _&&_}
-use mathlib.Core.List.{List, [], _∷_, _++_, map, map-append}
+use mathlib.Core.Bool.{true}
+use mathlib.Core.List.{List, [], _∷_, _++_, map-append}
 use native.Mathlib.Omega.{arith}
-use lib.Dec.{eqb, ltb}
+use lib.Dec.{ltb}
 use lib.ListN.{length, getD, take, drop, length-drop, length-map}
 use lib.Seq.{length-take-le, drop-cons}
-use borrow.Author.Tests.{ne-eqb, lt-ltb}
+use borrow.Author.Tests.{lt-ltb}
 use Rattle.laws.specs.Picked.{countUp}
 use Rattle.laws.proofs.Picked.{diffEnds-up}
-use Rattle.laws.proofs.Tests.{and-left, and-right, and-both}
+use Rattle.laws.proofs.Tests.{and-both}
 use Rattle.laws.proofs.Tries.{rises-tail}
 use Rattle.chunk.specs.Entry.{Entry, stands, keep, every}
 use Rattle.chunk.specs.Bodies.{diffs, diffEnds, diffEndsFrom}
@@ -19,7 +19,7 @@ use Rattle.chunk.specs.Words.{limit, rises, risesFrom}
 use Rattle.meld.specs.Copy.{shifted, shiftedAll}
 use Rattle.meld.proofs.Append.{raised, diff-ends-append}
 use Rattle.reports.specs.Survey.{Report, this, that, both}
-use Rattle.reports.specs.Write.{width, widths, entriesOf, entriesBy, addedTo, Serves, AllServe, AllSome, wrapped, lowOf, listEnds, diffList, diffOf, diffEndsBy}
+use Rattle.reports.specs.Write.{width, widths, entriesOf, entriesBy, Serves, AllServe, AllSome, wrapped, lowOf, listEnds, diffOf, diffEndsBy}
 use Rattle.reports.proofs.WriteDiffs.{short-diffs}
 use Rattle.reports.proofs.WriteEntries.{every-take, every-drop, diffs-all, diffs-of}
 use Rattle.reports.proofs.WriteRuns.{length-range}

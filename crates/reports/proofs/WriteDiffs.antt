@@ -1,16 +1,16 @@
 -- Diffs written report by report: a run as a range, a shared time's sum where it isn't 0; and their ends.
-use Prim.Native.Nat.{ℕ, zero, suc, _+_, _-_, _*_, _^_, _%_, _<_, _≤_}
+use Prim.Native.Nat.{ℕ, zero, suc, _+_, _-_, _^_, _%_, _<_, _≤_}
 use mathlib.Core.Path.{_≡_, refl, sym, _∙_, ap}
-use mathlib.Core.List.{List, [], _∷_, _++_}
+use mathlib.Core.List.{List, [], _∷_}
 use native.Mathlib.Omega.{arith}
 use lib.ListN.{length, getD, set, length-append}
 use Rattle.chunk.specs.Words.{limit}
 use Rattle.reports.specs.Survey.{Report, this, that, both}
 use Rattle.reports.specs.Scratch.{placed, report, reportAt, reportsAt}
-use Rattle.reports.specs.Write.{named, width, widths, Serves, AllServe, RunRoom, RunsRoom, lowOf, listEnds, ListRoom, diffList, diffOf, diffsBy, diffEndsBy, AllSome, DiffsRoom}
+use Rattle.reports.specs.Write.{named, width, widths, Serves, RunRoom, RunsRoom, lowOf, listEnds, ListRoom, diffList, diffOf, diffsBy, diffEndsBy, DiffsRoom}
 use Rattle.reports.proofs.Placing.{placed-none, placed-twice, length-placed}
-use Rattle.reports.proofs.WriteRuns.{is-both, length-named}
-use Rattle.reports.proofs.WriteEnds.{set-placed, length-ends, shared-serves}
+use Rattle.reports.proofs.WriteRuns.{length-named}
+use Rattle.reports.proofs.WriteEnds.{set-placed, length-ends}
 
 -- a run's diffs are what it names
 pub runs-diffs : (a b : List ℕ) (k l h : ℕ) → k ≤ 1 → named a b (report k l h) ≡ diffOf a b (report k l h)

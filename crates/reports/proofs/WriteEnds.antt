@@ -1,7 +1,7 @@
 -- Ends written list by list: how many items reports name, which reports lie under one of lists, and one turn of the loop over lists.
 use Prim.Native.Nat.{ℕ, zero, suc, _+_, _-_, _*_, _^_, _%_, _<_, _≤_}
 use mathlib.Core.Path.{_≡_, refl, sym, _∙_, ap}
-use mathlib.Core.Bool.{Bool, true, false, cond}
+use mathlib.Core.Bool.{Bool, true, false}
 use mathlib.Core.List.{List, [], _∷_, _++_}
 use native.Mathlib.Omega.{arith}
 use native.Mathlib.Numerals.{add-one}
@@ -12,7 +12,7 @@ use Rattle.chunk.specs.Words.{limit, rises}
 use Rattle.meld.specs.Copy.{shifted, shiftedAll}
 use Rattle.reports.specs.Survey.{Report, this, that, both}
 use Rattle.reports.specs.Scratch.{placed, report, reportAt, reportsAt}
-use Rattle.reports.specs.Write.{Room, width, widths, Serves, Rising, Upward, Counting, startsIn, insideFrom, groupSize, lowOf, firstLow, wrapped, listEnds, endsBy, Found, ListRoom, EndsRoom}
+use Rattle.reports.specs.Write.{Room, width, widths, Serves, Rising, Upward, Counting, startsIn, insideFrom, groupSize, lowOf, firstLow, wrapped, listEnds, endsBy, ListRoom, EndsRoom}
 use Rattle.reports.proofs.Placing.{placed-none, placed-twice, length-placed}
 use Rattle.reports.proofs.WriteRuns.{is-this, is-that, is-both, length-range}
 

@@ -1,7 +1,7 @@
 -- What reports of times name, body by body: the times and the diffs of the entries are those that are written.
-use Prim.Native.Nat.{ℕ, zero, suc, _+_, _-_, _*_, _^_, _%_, _<_, _≤_}
+use Prim.Native.Nat.{ℕ, zero, suc, _+_, _-_, _^_, _%_, _<_}
 use mathlib.Core.Path.{_≡_, refl, sym, _∙_, ap}
-use mathlib.Core.Bool.{Bool, true, false, cond, _&&_}
+use mathlib.Core.Bool.{Bool, true, false}
 use mathlib.Core.List.{List, [], _∷_, _++_, map}
 use native.Mathlib.Omega.{arith}
 use lib.Dec.{eqb}
@@ -13,10 +13,8 @@ use Rattle.laws.proofs.Lists.{map-take, map-drop}
 use Rattle.chunk.specs.Entry.{Entry, stands, keep, every}
 use Rattle.chunk.specs.Bodies.{times, diffs}
 use Rattle.chunk.specs.Sums.{plus}
-use Rattle.chunk.specs.Words.{endsRise}
 use Rattle.meld.proofs.Append.{times-append, diffs-append}
 use Rattle.reports.specs.Survey.{Report, this, that, both}
-use Rattle.reports.specs.Theorems.{summed}
 use Rattle.reports.specs.Write.{named, itemsBy, addedTo, entriesOf, entriesBy, Serves, AllServe, diffList, diffOf, diffsBy}
 
 -- ---- times

@@ -1,6 +1,6 @@
 -- Ends that follow one another are counted up from the first.
 use Prim.Native.Nat.{ℕ, zero, suc, _+_, _-_, _^_, _%_, _<_, _≤_}
-use mathlib.Core.Path.{_≡_, refl, sym, _∙_, ap}
+use mathlib.Core.Path.{_≡_, sym, _∙_, ap}
 use mathlib.Core.Bool.{true}
 use mathlib.Core.List.{List, [], _∷_}
 use native.Mathlib.Omega.{arith}
@@ -12,7 +12,7 @@ use borrow.Rule.Slice.PartMut.{putMid}
 use Rattle.laws.proofs.Tests.{and-left, and-right}
 use Rattle.laws.proofs.Tries.{rises-tail}
 use Rattle.chunk.specs.Words.{rises, risesFrom}
-use Rattle.meld.specs.Copy.{copied, shifted, shiftedAll, countedOn}
+use Rattle.meld.specs.Copy.{shifted, shiftedAll, countedOn}
 use Rattle.meld.proofs.Copy.{length-counted, getD-counted, copied-whole}
 use Rattle.reports.specs.Scratch.{placed}
 use Rattle.reports.specs.Write.{Room, InRow}

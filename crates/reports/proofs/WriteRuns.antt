@@ -1,7 +1,7 @@
 -- Runs written one after another: what a report's words say, a run in its place, and one turn of the loop over reports.
-use Prim.Native.Nat.{ℕ, zero, suc, _+_, _-_, _*_, _<_, _≤_}
+use Prim.Native.Nat.{ℕ, zero, suc, _+_, _-_, _<_, _≤_}
 use mathlib.Core.Path.{_≡_, refl, sym, _∙_, ap}
-use mathlib.Core.List.{List, [], _∷_, _++_}
+use mathlib.Core.List.{List}
 use native.Mathlib.Omega.{arith}
 use lib.ListN.{length, getD, take, drop, length-drop, length-map}
 use lib.Seq.{length-take-le}
@@ -10,7 +10,7 @@ use Rattle.meld.specs.Copy.{copied, shifted, shiftedAll}
 use Rattle.meld.proofs.Place.{put-copied}
 use Rattle.reports.specs.Survey.{Report, this, that, both}
 use Rattle.reports.specs.Scratch.{placed, report, reportAt, reportsAt}
-use Rattle.reports.specs.Write.{Room, named, itemsBy, width, widths, Serves, AllServe, RunRoom, RunsRoom}
+use Rattle.reports.specs.Write.{Room, named, itemsBy, width, widths, Serves, RunRoom, RunsRoom}
 use Rattle.reports.proofs.Placing.{placed-none, placed-twice, length-placed}
 
 -- the two ways to say that words are placed

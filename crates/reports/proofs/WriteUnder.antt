@@ -1,11 +1,11 @@
 -- Reports that lie under each other are found: the reports of items that start short of two lists' ends are those of the two lists.
 use Prim.Native.Nat.{ℕ, zero, suc, _+_, _-_, _<_, _≤_}
-use mathlib.Core.Path.{_≡_, refl, sym, _∙_, ap}
-use mathlib.Core.Bool.{Bool, true, false, cond}
+use mathlib.Core.Path.{_≡_, refl, _∙_, ap}
+use mathlib.Core.Bool.{true}
 use mathlib.Core.List.{List, [], _∷_, _++_}
 use native.Mathlib.Omega.{arith}
 use lib.Dec.{ltb}
-use lib.ListN.{length, getD, take, drop, length-append}
+use lib.ListN.{length, getD, drop, length-append}
 use lib.Seq.{drop-append-seam}
 use borrow.Author.Tests.{ltb-true, lt-ltb, le-ltb, eqb-true}
 use Rattle.laws.proofs.Tests.{and-left, and-right}
@@ -13,7 +13,7 @@ use Rattle.chunk.specs.Words.{endsRise}
 use Rattle.chunk.specs.Contents.{startOf}
 use Rattle.laws.proofs.Ends.{ends-up, rise-rises}
 use Rattle.reports.specs.Survey.{Report, this, that, both}
-use Rattle.reports.specs.Write.{Run, Inside, Shared, Under, ended, first, second, shared, startsIn, insideFrom, groupSize, Found, AllServe, AllSome, Upward}
+use Rattle.reports.specs.Write.{Inside, Shared, Under, ended, first, second, shared, insideFrom, groupSize, Found, AllServe, AllSome, Upward}
 
 -- ---- ends that rise
 

@@ -1,5 +1,5 @@
 -- Yard examples of document 01 for merge and suffix, marked P: chunk A with B, and A from (0, 1, 2) on. Each is a theorem in `proofs/Examples.antt`.
-use Prim.Native.Nat.{ℕ, zero, suc}
+use Prim.Native.Nat.{ℕ}
 use mathlib.Core.Path.{_≡_}
 use mathlib.Core.List.{List, [], _∷_}
 use lib.ListN.{replicate}

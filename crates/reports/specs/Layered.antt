@@ -1,6 +1,6 @@
 -- Reports of the three layers of two lists of entries that lie under each other, and the bodies of the entries that the lowest of them name.
-use Prim.Native.Nat.{ℕ, _≤_}
-use mathlib.Core.Bool.{Bool, true}
+use Prim.Native.Nat.{_≤_}
+use mathlib.Core.Bool.{true}
 use mathlib.Core.Path.{_≡_}
 use mathlib.Core.List.{List}
 use lib.ListN.{length}

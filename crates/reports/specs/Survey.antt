@@ -1,10 +1,10 @@
 -- Survey (document 01), key layer: how two rising lists of keys interleave.
 use Prim.Native.Nat.{ℕ, zero, suc, _+_}
-use mathlib.Core.Bool.{Bool, true, false, not, cond, _&&_}
-use mathlib.Core.List.{List, [], _∷_, _++_}
+use mathlib.Core.Bool.{cond}
+use mathlib.Core.List.{List, [], _∷_}
 use lib.Dec.{ltb, eqb}
 use lib.ListN.{length, drop}
-use Rattle.chunk.specs.Words.{keyBody, nk}
+use Rattle.chunk.specs.Words.{nk}
 use Rattle.chunk.specs.Refusal.{first, refuse, malformed, unsettled, empty}
 
 -- a run of one input's keys, the "to" excluded, or a shared key's two indices

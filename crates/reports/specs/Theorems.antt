@@ -1,11 +1,11 @@
 -- What a merge keeps (document 01, "Merge", and "What the promises have to settle"): the output up to L and the survivor's suffix say
 -- together what the two inputs said. Each statement is a type here, and a theorem under the same words in `proofs/Merged.antt`.
 use Prim.Native.Nat.{ℕ, _+_, _<_, _≤_}
-use mathlib.Core.Bool.{Bool, true, false, cond}
+use mathlib.Core.Bool.{true, false, cond}
 use mathlib.Core.Path.{_≡_}
 use mathlib.Core.List.{List, [], _∷_, _++_}
 use lib.ListN.{length, drop}
-use lib.IntN.{ℤ, _+ℤ_}
+use lib.IntN.{_+ℤ_}
 use Rattle.chunk.specs.Entry.{Entry, before, rising}
 use Rattle.chunk.specs.Sums.{plus, withDiff, total}
 use Rattle.reports.specs.Merge.{union, merged, survivor, overflows, soundAt, Place, Survives, nobody, theFirst, theSecond}

@@ -1,7 +1,7 @@
 -- What reports name, and when the reports of one layer lie under those of the layer above (document 01, "Merge"; "each layer is written into
 -- its own part of the output"): the layers are written from them, runs of one input as ranges.
 use Prim.Native.Nat.{ℕ, zero, suc, _+_, _-_, _*_, _^_, _%_, _<_, _≤_}
-use mathlib.Core.Bool.{Bool, true, false, cond}
+use mathlib.Core.Bool.{Bool, true, cond}
 use mathlib.Core.Path.{_≡_}
 use mathlib.Core.List.{List, [], _∷_, _++_}
 use lib.Dec.{ltb}

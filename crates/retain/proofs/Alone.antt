@@ -7,7 +7,7 @@ use mathlib.Core.List.{List, [], _∷_, foldr}
 use native.Mathlib.Omega.{arith}
 use lib.Dec.{ltb, leb, eqb}
 use borrow.Author.Tests.{ltb-true, ltb-false, leb-true, eqb-true, eqb-false, lt-ltb, le-leb, eq-eqb, ne-eqb}
-use Rattle.chunk.specs.Entry.{ignition, tick, keep, every}
+use Rattle.chunk.specs.Entry.{ignition, tick, keep}
 use Rattle.chunk.specs.Time.{atOrBelow}
 use Rattle.chunk.specs.Words.{rises, risesFrom}
 use Rattle.laws.proofs.Tests.{by-test, and-left, and-right, and-both, and-false, true-not-false}

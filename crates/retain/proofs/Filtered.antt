@@ -10,7 +10,7 @@ use lib.ListN.{length, getD, drop}
 use lib.Seq.{getD-drop, drop-drop}
 use borrow.Author.Tests.{lt-ltb, le-ltb, not-true}
 use Rattle.chunk.specs.Entry.{Entry, every, stands, keep}
-use Rattle.chunk.specs.Bodies.{times, diffs, diffEndsFrom}
+use Rattle.chunk.specs.Bodies.{diffs, diffEndsFrom}
 use Rattle.chunk.specs.Contents.{startOf}
 use Rattle.laws.proofs.Tests.{by-test, and-left, and-both}
 use Rattle.laws.specs.Picked.{countKept, pick}

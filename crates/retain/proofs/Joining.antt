@@ -14,7 +14,7 @@ use Rattle.laws.proofs.Tests.{by-test, and-left, and-right, and-both, and-false
 use Rattle.retain.specs.Frontier.{any, isOpen, insertTime, leastOf, ordered}
 use Rattle.retain.specs.Found.{Stair, joined}
 use Rattle.retain.proofs.Stairs.{ordered-tail, ordered-next, stairs}
-use Rattle.retain.proofs.Alone.{has, has-head, has-insert, has-keep, has-least, least-rises, least-cons, lower, alone, some-has, none-has, same-members, below-number}
+use Rattle.retain.proofs.Alone.{has, has-head, has-insert, has-keep, has-least, least-rises, least-cons, alone, some-has, none-has, same-members, below-number}
 
 -- ---- members
 

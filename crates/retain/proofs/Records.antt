@@ -8,7 +8,7 @@ use lib.Dec.{eqb}
 use borrow.Author.Tests.{eqb-true}
 use lib.IntN.{ℤ, _+ℤ_, +ℤ-assoc, +ℤ-comm, +ℤ-idl}
 use lib.ListN.{length}
-use Rattle.chunk.specs.Entry.{Entry, keep, every, stands, change, rising}
+use Rattle.chunk.specs.Entry.{Entry, keep, every, stands, change}
 use Rattle.chunk.specs.Sums.{total}
 use Rattle.laws.proofs.Tests.{by-test, and-left, and-right, and-both}
 use Rattle.retain.specs.Extract.{keptOf, shippedOf}

@@ -8,7 +8,7 @@ use Rattle.chunk.specs.Entry.{Entry, keep}
 use Rattle.chunk.specs.Bodies.{times}
 use Rattle.chunk.specs.Words.{entries, size}
 use Rattle.chunk.specs.Refusal.{first, refuse, malformed, unsettled, written}
-use Rattle.retain.specs.Frontier.{most, isOpen, sound, places, leastOf}
+use Rattle.retain.specs.Frontier.{most, isOpen, sound, leastOf}
 
 -- the open entries
 unfoldable pub keptOf : List ℕ → List Entry → List Entry

@@ -1,5 +1,5 @@
 -- Frontiers (document 01): corners with ignitions rising strictly and ticks falling strictly.
-use Prim.Native.Nat.{ℕ, zero, _-_}
+use Prim.Native.Nat.{ℕ, _-_}
 use mathlib.Core.Bool.{Bool, true, false, not, cond, _&&_, _||_}
 use mathlib.Core.List.{List, [], _∷_, _++_, foldr}
 use lib.Dec.{leb, ltb, eqb}

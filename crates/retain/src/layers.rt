@@ -2,7 +2,7 @@
 // item that goes is written over by the next that stays.
 ghost use mathlib.Core.Path.{_≡_};
 ghost use mathlib.Core.Bool.{true};
-ghost use Prim.Native.Nat.{ℕ, _+_, _≤_, _<_};
+ghost use Prim.Native.Nat.{_+_, _≤_, _<_};
 ghost use lib.ListN.{length, take, drop};
 ghost use Rattle.retain.specs.Frontier.{ordered};
 ghost use Rattle.retain.specs.Keep.{timeKept};

@@ -1,7 +1,7 @@
 // Whether a time is open under corners: no branch depends on the time, so that it costs the same whatever the times are.
 ghost use mathlib.Core.Path.{_≡_};
 ghost use mathlib.Core.Bool.{true};
-ghost use Prim.Native.Nat.{ℕ, _<_, _^_};
+ghost use Prim.Native.Nat.{_<_, _^_};
 ghost use lib.ListN.{length};
 ghost use lib.Dec.{leb};
 ghost use Rattle.chunk.specs.Entry.{keep};

@@ -1,6 +1,6 @@
 // What an extract leaves on either side, counted in one look over the times: of a settled chunk a time that isn't open is shut.
 ghost use mathlib.Core.Path.{_≡_};
-ghost use Prim.Native.Nat.{ℕ, _-_, _≤_};
+ghost use Prim.Native.Nat.{_-_, _≤_};
 ghost use lib.ListN.{length};
 ghost use Rattle.retain.specs.declared.Keep.the-variants.{Open, Shut};
 ghost use mathlib.Core.Bool.{true};

@@ -1,21 +1,19 @@
 -- The lent records, one report after another, are the reports in order with the other records as they were.
 use Prim.Native.Nat.{ℕ, zero, suc, _+_, _-_, _≤_, _<_}
 use mathlib.Core.Path.{_≡_, refl, sym, _∙_, ap}
-use mathlib.Core.Bool.{Bool, true, false}
 use mathlib.Core.List.{List, [], _∷_, _++_, map, append-assoc}
 use native.Mathlib.Omega.{arith}
 use native.Mathlib.Numerals.{add-one}
 use lib.ListN.{length, take, drop, set, length-set, take-append-drop}
 use lib.Seq.{take-suc-set, drop-set-lt}
-use lib.Dec.{ltb, eqb}
+use lib.Dec.{ltb}
 use borrow.Author.Tests.{ltb-true, ltb-false}
 use Rattle.laws.proofs.Tests.{by-test}
-use Rattle.chunk.specs.Words.{nk, keyBody}
 use Rattle.reports.specs.Survey.{reports, surveyNumber}
 use Rattle.reports.specs.Survey.{Report as Said}
 use Rattle.reports.specs.Scratch.{pairOf}
 use Rattle.reports.proofs.Ranges.{pair-none}
-use Rattle.survey.specs.Reports.{recordOf, nextIn, nextOf, nextBy, keysOf, inputNumber, countFor, surveyedOf, filledFor, filledOf}
+use Rattle.survey.specs.Reports.{recordOf, nextIn, nextOf, keysOf, countFor, surveyedOf, filledFor, filledOf}
 use Rattle.survey.specs.declared.Report.{Report}
 use Rattle.survey.specs.declared.Spot.{Spot}
 use Rattle.survey.specs.declared.Next.{Next}

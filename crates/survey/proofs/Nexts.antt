@@ -1,22 +1,21 @@
 -- The next report of two lists of keys: the ways to it, and the reports that follow it.
-use Prim.Native.Nat.{ℕ, zero, suc, _+_, _-_, _<_, _≤_}
+use Prim.Native.Nat.{ℕ, _+_, _-_, _<_, _≤_}
 use mathlib.Core.Path.{_≡_, refl, sym, _∙_, ap}
-use mathlib.Core.Bool.{Bool, true, false}
-use mathlib.Core.List.{List, [], _∷_, map}
+use mathlib.Core.List.{List, _∷_}
 use native.Mathlib.Omega.{arith}
-use lib.ListN.{length, getD, take, drop}
+use lib.ListN.{length, getD}
 use lib.Seq.{take-all}
 use lib.Dec.{ltb, eqb}
 use borrow.Author.Tests.{lt-ltb, le-ltb, ltb-true, ltb-false, eqb-true, eqb-false}
 use Rattle.laws.proofs.Tests.{by-test}
-use Rattle.reports.specs.Survey.{this, that, both, reports, reportsFrom}
+use Rattle.reports.specs.Survey.{this, that, both, reports}
 use Rattle.reports.specs.Survey.{Report as Said}
-use Rattle.reports.specs.Gallop.{runEnd, between}
+use Rattle.reports.specs.Gallop.{runEnd}
 use Rattle.reports.specs.Scratch.{stepReport, pairOf}
 use Rattle.reports.proofs.Galloping.{run-long, run-within}
 use Rattle.reports.proofs.Ranges.{reports-count, pair-none, pair-this, pair-that}
 use Rattle.merge.proofs.Stepping.{step-both, step-this, step-that, pair-step}
-use Rattle.survey.specs.Reports.{recordOf, nextBy, noNext, nextIn}
+use Rattle.survey.specs.Reports.{nextBy, noNext, nextIn}
 use Rattle.survey.specs.declared.Next.{Next}
 
 module _ (xs ys : List ℕ) (i j : ℕ) where

@@ -1,10 +1,10 @@
 -- What a survey answers, by the numbers of its two inputs, and how the reports come one by one.
 use Prim.Native.Nat.{ℕ, zero, suc, _+_, _-_, _≤_, _<_}
 use mathlib.Core.Path.{_≡_, refl, sym, _∙_, ap}
-use mathlib.Core.Bool.{Bool, true, false, not, cond, _&&_}
+use mathlib.Core.Bool.{Bool, true, false, not}
 use mathlib.Core.List.{List, [], _∷_}
 use native.Mathlib.Omega.{arith}
-use lib.ListN.{length, take, drop, length-drop}
+use lib.ListN.{length, drop, length-drop}
 use lib.Seq.{length-take-le}
 use lib.Dec.{leb, ltb, eqb}
 use borrow.Author.Tests.{leb-true, lt-ltb, le-ltb, ltb-false}
@@ -12,7 +12,7 @@ use Rattle.laws.proofs.Tests.{by-test, and-left, and-right}
 use Rattle.chunk.specs.Words.{nk, nt, size, tableSize, tableFits, wellFormed, settled, keyBody}
 use Rattle.chunk.specs.Refusal.{Test, first, refuse, malformed, unsettled, empty}
 use Rattle.reports.specs.Survey.{reports, surveyNumber}
-use Rattle.survey.specs.Reports.{keysOf, inputNumber, countFor, surveyedBy, surveyedOf}
+use Rattle.survey.specs.Reports.{keysOf, inputNumber, surveyedBy, surveyedOf}
 use Rattle.survey.specs.declared.Surveyed.{Surveyed}
 
 -- three tests of which one fails decide, whatever follows

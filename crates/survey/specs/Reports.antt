@@ -1,9 +1,9 @@
 -- Reports as records (document 01, "Survey": a report for each shared key with its two indices, and one for each longest run of one
 -- input's keys, as a from-to index range; and "reports stand in a slice of report records the caller lends").
 use Prim.Native.Nat.{ℕ, zero, suc, _+_}
-use mathlib.Core.Bool.{Bool, true, false, cond}
+use mathlib.Core.Bool.{cond}
 use mathlib.Core.List.{List, [], _∷_, _++_, map}
-use lib.Dec.{ltb, eqb}
+use lib.Dec.{ltb}
 use lib.ListN.{length, drop, replicate}
 use Rattle.chunk.specs.Words.{keyBody, tableFits}
 use Rattle.chunk.specs.Refusal.{first, malformed, unsettled, empty}

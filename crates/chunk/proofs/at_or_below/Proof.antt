@@ -1,5 +1,4 @@
 -- `chunk::at_or_below` meets its contract.
-use native.Mathlib.Omega.{arith}
 use borrow.Author.Tests.{le-leb, lt-leb}
 use Rattle.chunk.proofs.at_or_below.Statement.{statement}
 use Rattle.chunk.proofs.at_or_below.Tie as tie

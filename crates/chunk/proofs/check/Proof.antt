@@ -1,9 +1,8 @@
 -- `chunk::check` meets its contract.
 use Prim.Native.Nat.{ℕ}
-use mathlib.Core.Path.{_≡_, refl, sym, _∙_, ap}
-use mathlib.Core.Bool.{Bool, true, false, not, _&&_}
+use mathlib.Core.Path.{_≡_, sym, _∙_, ap}
+use mathlib.Core.Bool.{Bool, true, false}
 use mathlib.Core.List.{List}
-use native.Mathlib.Omega.{arith}
 use lib.Dec.{eqb}
 use borrow.Author.Tests.{not-true, not-false}
 use Rattle.chunk.specs.declared.Contents.{Contents}
@@ -12,16 +11,11 @@ use Rattle.chunk.specs.Words.{wellFormed, tableFits, settled, nt, nd}
 use Rattle.chunk.specs.Contents.{Placed, contentsOf, noContents}
 use Rattle.chunk.specs.Check.{checkedOf}
 use Rattle.chunk.proofs.Tests.{true-not-false}
-use Rattle.chunk.proofs.WellFormed.{Parts, refuted}
+use Rattle.chunk.proofs.WellFormed.{refuted}
 use Rattle.chunk.proofs.Placed.{placed, fits-fits}
 use borrow.Author.Needs.{needs}
 use Rattle.chunk.proofs.check.Statement.{statement}
 use Rattle.chunk.proofs.check.Tie as tie
-use Rattle.chunk.proofs.check.Reads as reads
-use Rattle.chunk.proofs.check.Lts as lts
-use Rattle.chunk.proofs.bodies_hold.Reads as bodies-hold-reads
-use Rattle.chunk.proofs.nothing.Reads as nothing-reads
-use Rattle.chunk.proofs.read_contents.Reads as read-contents-reads
 
 -- the answer, by whether the slice is well formed
 refused : (w : List ℕ) (n : Contents) → n ≡ noContents → wellFormed w ≡ false → _≡_ {A = Checked} (record { number = 5; settled = false; contents = n }) (checkedOf w)

@@ -1,10 +1,9 @@
 -- `chunk::child_range` meets its contract.
-use Prim.Native.Nat.{ℕ, zero, suc, _<_, _-_}
-use mathlib.Core.Path.{_≡_, refl, sym, _∙_, ap}
+use Prim.Native.Nat.{ℕ, zero, suc, _-_}
+use mathlib.Core.Path.{_≡_, refl}
 use mathlib.Core.List.{List}
-use native.Mathlib.Omega.{arith}
 use native.Mathlib.Numerals.{sub-one}
-use lib.ListN.{length, getD}
+use lib.ListN.{getD}
 use borrow.Author.Tests.{lt-ltb, le-ltb}
 use Rattle.chunk.specs.Contents.{childRange, startOf}
 use borrow.Author.Needs.{needs}

@@ -4,10 +4,6 @@ use borrow.Author.Needs.{needs}
 use Rattle.chunk.proofs.Counting.{alone}
 use Rattle.chunk.proofs.layer_rises.Statement.{statement}
 use Rattle.chunk.proofs.layer_rises.Tie as tie
-use Rattle.chunk.proofs.layer_rises.Reads as reads
-use Rattle.chunk.proofs.layer_rises.Lts as lts
-use Rattle.chunk.proofs.counts_up.Reads as counts-up-reads
-use Rattle.chunk.proofs.lists_rise.Reads as lists-rise-reads
 
 counts-up-requires : tie.Need-counts-up-requires
 counts-up-requires c κs = search needs

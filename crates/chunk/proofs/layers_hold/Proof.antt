@@ -1,12 +1,12 @@
 -- `chunk::layers_hold` meets its contract: each test that fails is one of the ten of a well formed slice, and the last leaves them all held.
 use Prim.Native.Nat.{ℕ, _-_}
 use mathlib.Core.Path.{_≡_, sym, _∙_, ap}
-use mathlib.Core.Bool.{Bool, true, false, not, _&&_}
+use mathlib.Core.Bool.{Bool, true, false, _&&_}
 use mathlib.Core.List.{List}
 use native.Mathlib.Omega.{arith}
 use borrow.Author.Tests.{le-leb, not-true, not-false}
 use lib.ListN.{length, take, drop}
-use lib.Dec.{leb, eqb}
+use lib.Dec.{leb}
 use denote.Ref.{now}
 use Rattle.chunk.specs.declared.Contents.{Contents}
 use Rattle.chunk.specs.Entry.{every}

@@ -1,6 +1,5 @@
 -- `chunk::layout` meets its contract: a count above the limit gives nothing.
-use mathlib.Core.Path.{_≡_, sym, _∙_}
-use native.Mathlib.Omega.{arith}
+use mathlib.Core.Path.{_∙_}
 use borrow.Author.Tests.{le-leb, lt-leb}
 use Rattle.chunk.specs.Contents.{layoutWithin}
 use borrow.Author.Needs.{needs}

@@ -4,7 +4,6 @@ use native.Mathlib.Omega.{arith}
 use denote.Ref.{now}
 use Rattle.chunk.proofs.Placed.{cut-keys, cut-val-ends, cut-time-ends, cut-diff-ends, cut-diffs}
 use Rattle.chunk.proofs.Rowing.{level-rows, level-well}
-use borrow.Author.Needs.{needs}
 use Rattle.chunk.proofs.Lending.{Lending, lending}
 use Rattle.chunk.proofs.level_holds.Statement.{statement}
 use Rattle.chunk.proofs.level_holds.Tie as tie

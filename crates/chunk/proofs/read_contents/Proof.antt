@@ -1,11 +1,10 @@
 -- `chunk::read_contents` meets its contract: each early answer has a count, or the size, above the slice's length.
-use Prim.Native.Nat.{ℕ, _<_, _≤_, _+_, _*_}
+use Prim.Native.Nat.{ℕ, _<_, _≤_}
 use mathlib.Core.Path.{_≡_, refl, _∙_, ap}
 use mathlib.Core.Bool.{Bool, true, false, _&&_}
 use mathlib.Core.List.{List}
 use native.Mathlib.Omega.{arith}
 use lib.ListN.{length, getD}
-use lib.Dec.{leb}
 use borrow.Author.Tests.{lt-leb, le-leb}
 use Rattle.chunk.specs.declared.Contents.{Contents}
 use Rattle.chunk.specs.Words.{size, tableSize}
@@ -13,10 +12,6 @@ use Rattle.chunk.specs.Contents.{contentsOf, layoutOf, noContents}
 use borrow.Author.Needs.{needs}
 use Rattle.chunk.proofs.read_contents.Statement.{statement}
 use Rattle.chunk.proofs.read_contents.Tie as tie
-use Rattle.chunk.proofs.read_contents.Reads as reads
-use Rattle.chunk.proofs.read_contents.Lts as lts
-use Rattle.chunk.proofs.nothing.Reads as nothing-reads
-use Rattle.chunk.proofs.places.Reads as places-reads
 
 and-false : (a : Bool) → (a && false) ≡ false
 and-false true = refl

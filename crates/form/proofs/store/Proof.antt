@@ -4,8 +4,6 @@ use lib.ListN.{length-set}
 use borrow.Author.Needs.{needs}
 use Rattle.form.proofs.store.Statement.{statement}
 use Rattle.form.proofs.store.Tie as tie
-use Rattle.form.proofs.store.Reads as reads
-use Rattle.form.proofs.store.Lts as lts
 
 -- src/lib.rt:188:13
 sub-k : tie.Need-sub-k

@@ -1,19 +1,9 @@
-use Prim.Native.Nat.{ℕ, suc, _≤_, _<_, _+_, _-_, _*_, _/_}
-use mathlib.Core.Path.{_≡_, refl, sym, _∙_, ap}
-use mathlib.Core.Bool.{Bool, true, false}
+use Prim.Native.Nat.{_<_, _-_}
 use native.Mathlib.Omega.{arith}
-use lib.ListN.{length, getD}
-use borrow.Author.Tests.{lt-ltb, le-ltb}
-use Rattle.reports.specs.Gallop.{belowAt, Doubled, Reached, Rises, settled}
-use Rattle.merge.specs.Strode.{Strode}
-use Rattle.reports.proofs.Galloping.{below-at-true, at-short, doubled-one, doubled-more, Halving, done, going, halve, Stood, settle-stood, reached-end, no-run}
+use Rattle.reports.proofs.Galloping.{below-at-true, at-short, reached-end, no-run}
 use borrow.Author.Needs.{needs}
 use Rattle.merge.proofs.gallop.Statement.{statement}
 use Rattle.merge.proofs.gallop.Tie as tie
-use Rattle.merge.proofs.gallop.Reads as reads
-use Rattle.merge.proofs.gallop.Lts as lts
-use Rattle.merge.proofs.gallop_down.Reads as gallop-down-reads
-use Rattle.merge.proofs.gallop_up.Reads as gallop-up-reads
 
 returns : tie.Need-returns
 returns c = no-run _ _ _ _ (c .before .before .pre .ordered) (c .before .before .pre .within) (λ h. absurd (omega (arith, h, c .if1 .taken)))

@@ -1,17 +1,8 @@
-use Prim.Native.Nat.{ℕ, suc, _≤_, _<_, _+_, _-_, _*_, _/_}
-use mathlib.Core.Path.{_≡_, refl, sym, _∙_, ap}
-use mathlib.Core.Bool.{Bool, true, false}
+use Prim.Native.Nat.{_-_}
 use native.Mathlib.Omega.{arith}
-use lib.ListN.{length, getD}
-use borrow.Author.Tests.{lt-ltb, le-ltb}
-use Rattle.reports.specs.Gallop.{belowAt, Doubled, Reached, Rises, settled}
-use Rattle.merge.specs.Strode.{Strode}
-use Rattle.reports.proofs.Galloping.{below-at-true, at-short, doubled-one, doubled-more, doubled-pos, halved-out, Halving, done, going, halve, Stood, settle-stood, reached-end, no-run}
+use Rattle.reports.proofs.Galloping.{at-short, halved-out, halve, Stood, settle-stood}
 use Rattle.merge.proofs.gallop_down.Statement.{statement}
 use Rattle.merge.proofs.gallop_down.Tie as tie
-use Rattle.merge.proofs.gallop_down.Reads as reads
-use Rattle.merge.proofs.gallop_down.Lts as lts
-use Rattle.merge.proofs.settle.Reads as settle-reads
 
 abbrev Inv-loop : tie.InvT-loop
 Inv-loop items from wide upper target lower₀ step₀ lower step = Stood items from upper target lower step

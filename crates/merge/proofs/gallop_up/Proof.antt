@@ -1,17 +1,11 @@
-use Prim.Native.Nat.{ℕ, suc, _≤_, _<_, _+_, _-_, _*_, _/_}
-use mathlib.Core.Path.{_≡_, refl, sym, _∙_, ap}
-use mathlib.Core.Bool.{Bool, true, false}
+use Prim.Native.Nat.{_≤_, _<_, _+_, _-_, _*_}
+use mathlib.Core.Path.{_≡_, sym, _∙_}
+use mathlib.Core.Bool.{true}
 use native.Mathlib.Omega.{arith}
-use lib.ListN.{length, getD}
-use borrow.Author.Tests.{lt-ltb, le-ltb}
-use Rattle.reports.specs.Gallop.{belowAt, Doubled, Reached, Rises, settled}
-use Rattle.merge.specs.Strode.{Strode}
-use Rattle.reports.proofs.Galloping.{below-at-true, at-short, doubled-one, doubled-more, doubled-pos, halved-out, Halving, done, going, halve, Stood, settle-stood, reached-end, no-run}
+use Rattle.reports.specs.Gallop.{belowAt, Doubled}
+use Rattle.reports.proofs.Galloping.{at-short, doubled-one, doubled-more, doubled-pos}
 use Rattle.merge.proofs.gallop_up.Statement.{statement}
 use Rattle.merge.proofs.gallop_up.Tie as tie
-use Rattle.merge.proofs.gallop_up.Reads as reads
-use Rattle.merge.proofs.gallop_up.Lts as lts
-use Rattle.merge.proofs.below_at.Reads as below-at-reads
 
 abbrev Inv-loop : tie.InvT-loop
 Inv-loop items from upper target lower₀ step₀ lower step = (from ≤ lower) × (belowAt items upper target lower ≡ true) × Doubled step × (step ≤ 2 * upper)

@@ -1,15 +1,8 @@
-use mathlib.Core.Path.{_≡_, sym, _∙_}
+use mathlib.Core.Path.{sym, _∙_}
 use Rattle.merge.proofs.Passing.{refused-by, first-refuses, second-refuses, small-each, room-refuses, both-pass, merge-done}
 use borrow.Author.Needs.{needs}
 use Rattle.merge.proofs.merge_pair.Statement.{statement}
 use Rattle.merge.proofs.merge_pair.Tie as tie
-use Rattle.merge.proofs.merge_pair.Reads as reads
-use Rattle.merge.proofs.merge_pair.Lts as lts
-use Rattle.chunk.proofs.check.Reads as check-reads
-use Rattle.merge.proofs.pair.input_refusal.Reads as input-refusal-reads
-use Rattle.merge.proofs.pair.merge_settled.Reads as merge-settled-reads
-use Rattle.merge.proofs.pair.refused.Reads as refused-reads
-use Rattle.merge.proofs.pair.room_refusal.Reads as room-refusal-reads
 
 -- src/lib.rt:506:9
 check-requires : tie.Need-check-requires

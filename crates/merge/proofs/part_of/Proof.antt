@@ -1,10 +1,7 @@
-use mathlib.Core.Path.{_≡_, sym}
-use Rattle.reports.proofs.Running.{part-past, part-crossed, part-there, run-this, run-that, run-both, run-short, run-other, run-past}
+use Rattle.reports.proofs.Running.{part-past, part-crossed, part-there}
 use borrow.Author.Needs.{needs}
 use Rattle.merge.proofs.part_of.Statement.{statement}
 use Rattle.merge.proofs.part_of.Tie as tie
-use Rattle.merge.proofs.part_of.Reads as reads
-use Rattle.merge.proofs.part_of.Lts as lts
 
 sub-result : tie.Need-sub-result
 sub-result c = search needs

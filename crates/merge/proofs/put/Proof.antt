@@ -1,12 +1,9 @@
-use Prim.Native.Nat.{ℕ, _≤_, _<_, _+_}
 use native.Mathlib.Omega.{arith}
-use lib.ListN.{length, length-set}
+use lib.ListN.{length-set}
 use Rattle.reports.proofs.Placing.{placed-three}
 use borrow.Author.Needs.{needs}
 use Rattle.merge.proofs.put.Statement.{statement}
 use Rattle.merge.proofs.put.Tie as tie
-use Rattle.merge.proofs.put.Reads as reads
-use Rattle.merge.proofs.put.Lts as lts
 
 mul-scratch : tie.Need-mul-scratch
 mul-scratch c = search needs

@@ -1,12 +1,8 @@
-use mathlib.Core.Path.{_≡_, sym}
-use Rattle.reports.proofs.Running.{part-past, part-crossed, part-there, run-this, run-that, run-both, run-short, run-other, run-past}
+use Rattle.reports.proofs.Running.{run-this, run-that, run-both, run-short, run-other, run-past}
 use mathlib.Core.List.{[]}
 use borrow.Author.Needs.{needs}
 use Rattle.merge.proofs.run_of.Statement.{statement}
 use Rattle.merge.proofs.run_of.Tie as tie
-use Rattle.merge.proofs.run_of.Reads as reads
-use Rattle.merge.proofs.run_of.Lts as lts
-use Rattle.merge.proofs.part_of.Reads as part-of-reads
 
 part-of-requires : tie.Need-part-of-requires
 part-of-requires c κs = search needs

@@ -1,18 +1,9 @@
-use Prim.Native.Nat.{ℕ, suc, _≤_, _<_, _+_, _-_, _*_, _/_}
-use mathlib.Core.Path.{_≡_, refl, sym, _∙_, ap}
-use mathlib.Core.Bool.{Bool, true, false}
-use native.Mathlib.Omega.{arith}
-use lib.ListN.{length, getD}
-use borrow.Author.Tests.{lt-ltb, le-ltb}
-use Rattle.reports.specs.Gallop.{belowAt, Doubled, Reached, Rises, settled}
-use Rattle.merge.specs.Strode.{Strode}
-use Rattle.reports.proofs.Galloping.{below-at-true, at-short, doubled-one, doubled-more, doubled-pos, halved-out, Halving, done, going, halve, Stood, settle-stood, reached-end, no-run}
+use Prim.Native.Nat.{_-_}
+use mathlib.Core.Path.{refl, sym, _∙_}
+use Rattle.reports.specs.Gallop.{settled}
 use borrow.Author.Needs.{needs}
 use Rattle.merge.proofs.settle.Statement.{statement}
 use Rattle.merge.proofs.settle.Tie as tie
-use Rattle.merge.proofs.settle.Reads as reads
-use Rattle.merge.proofs.settle.Lts as lts
-use Rattle.merge.proofs.below_at.Reads as below-at-reads
 
 add-below-at : tie.Need-add-below-at
 add-below-at c = search needs

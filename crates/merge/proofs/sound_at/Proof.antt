@@ -3,9 +3,6 @@ use Rattle.reports.proofs.Moving.{reading}
 use Rattle.merge.proofs.Sounding.{no-time, no-list, its-list}
 use Rattle.merge.proofs.sound_at.Statement.{statement}
 use Rattle.merge.proofs.sound_at.Tie as tie
-use Rattle.merge.proofs.sound_at.Reads as reads
-use Rattle.merge.proofs.sound_at.Lts as lts
-use Rattle.merge.proofs.pair.place_at.Reads as place-at-reads
 
 returns : tie.Need-returns
 returns c = no-time _ _ (rw (reading _ _ (c .before .before .before .pre) .counted) (c .if1 .taken))

@@ -1,22 +1,11 @@
-use Prim.Native.Nat.{ℕ, _≤_, _<_, _+_, _*_, _-_}
-use mathlib.Core.Path.{_≡_, refl, sym, _∙_, ap}
-use mathlib.Core.Bool.{Bool, true, false, not}
-use mathlib.Core.List.{List, [], _∷_, _++_}
-use native.Mathlib.Omega.{arith}
-use lib.ListN.{length, getD}
-use denote.Ref.{now}
+use Prim.Native.Nat.{_-_}
+use mathlib.Core.Path.{sym, _∙_}
 use borrow.Author.Tests.{not-true, not-false}
-use Rattle.chunk.specs.Words.{settled, nt, size}
-use Rattle.reports.proofs.Moving.{Reading, reading}
-use Rattle.reports.proofs.Refusing.{Passed, refused-check, passed-check, not-formed, not-settled, no-entries, not-sound, no-room, taken}
+use Rattle.reports.proofs.Moving.{reading}
+use Rattle.reports.proofs.Refusing.{refused-check, passed-check, not-formed, not-settled, no-entries, not-sound, no-room, taken}
 use borrow.Author.Needs.{needs}
 use Rattle.merge.proofs.suffix_chunk.Statement.{statement}
 use Rattle.merge.proofs.suffix_chunk.Tie as tie
-use Rattle.merge.proofs.suffix_chunk.Reads as reads
-use Rattle.merge.proofs.suffix_chunk.Lts as lts
-use Rattle.chunk.proofs.check.Reads as check-reads
-use Rattle.merge.proofs.sound_at.Reads as sound-at-reads
-use Rattle.merge.proofs.write_suffix.Reads as write-suffix-reads
 
 check-requires : tie.Need-check-requires
 check-requires c κs = search needs

@@ -1,17 +1,14 @@
-use Prim.Native.Nat.{ℕ, _≤_, _<_, _+_, _*_, _-_}
-use mathlib.Core.Path.{_≡_, refl, sym, _∙_, ap}
+use Prim.Native.Nat.{_≤_, _+_, _*_, _-_}
+use mathlib.Core.Path.{_≡_}
 use native.Mathlib.Omega.{arith}
 use borrow.Author.Needs.{needs}
-use lib.ListN.{length, getD}
+use lib.ListN.{length}
 use denote.Ref.{now}
 use mir.Syntax.{w64}
 use mir.Val.{Fits}
 use Rattle.reports.proofs.Surveying.{Surveying, surveying-none, surveying-length, one-room, surveying-more, surveying-all}
 use Rattle.merge.proofs.survey.Statement.{statement}
 use Rattle.merge.proofs.survey.Tie as tie
-use Rattle.merge.proofs.survey.Reads as reads
-use Rattle.merge.proofs.survey.Lts as lts
-use Rattle.merge.proofs.survey_one.Reads as survey-one-reads
 
 abbrev Inv-loop : tie.InvT-loop
 Inv-loop ends0 items0 ends1 items1 scratch₀ from count start at₀ i₀ n₀ scratch at i n = Surveying ends0 items0 ends1 items1 scratch₀ from count start scratch at i n

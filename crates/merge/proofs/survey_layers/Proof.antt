@@ -1,18 +1,11 @@
-use Prim.Native.Nat.{ℕ, _≤_, _<_, _+_, _*_, _-_}
-use mathlib.Core.Path.{_≡_, refl, sym, _∙_, ap}
+use Prim.Native.Nat.{_-_}
 use native.Mathlib.Omega.{arith}
-use borrow.Author.Needs.{needs}
-use lib.ListN.{length, getD}
 use denote.Ref.{now}
 use Rattle.reports.proofs.Moving.{reading}
 use Rattle.chunk.proofs.Lending.{Lending, lending}
 use Rattle.merge.proofs.Layering.{its-places, keys-room, KeysDone, keys-done, vals-room, ValsDone, vals-done, vals-past, times-room, times-done, times-length}
 use Rattle.merge.proofs.survey_layers.Statement.{statement}
 use Rattle.merge.proofs.survey_layers.Tie as tie
-use Rattle.merge.proofs.survey_layers.Reads as reads
-use Rattle.merge.proofs.survey_layers.Lts as lts
-use Rattle.merge.proofs.survey.Reads as survey-reads
-use Rattle.merge.proofs.survey_pair.Reads as survey-pair-reads
 
 first : (t : tie.Start) → Lending (t .args .words0 .now) (t .args .found0)
 first t = lending _ _ (its-places _ _ (t .pre .first)) (omega (arith, t .good .0))

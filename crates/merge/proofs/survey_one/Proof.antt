@@ -1,17 +1,8 @@
-use Prim.Native.Nat.{ℕ, _≤_, _<_, _+_, _*_, _-_}
-use mathlib.Core.Path.{_≡_, refl, sym, _∙_, ap}
-use native.Mathlib.Omega.{arith}
-use lib.ListN.{length, getD}
-use denote.Ref.{now}
-use Rattle.reports.proofs.Surveying.{run-written, one-this, one-that, named-this, named-that, pair-room, one-both}
+use Prim.Native.Nat.{_-_}
+use Rattle.reports.proofs.Surveying.{one-this, one-that, named-this, named-that, pair-room, one-both}
 use borrow.Author.Needs.{needs}
 use Rattle.merge.proofs.survey_one.Statement.{statement}
 use Rattle.merge.proofs.survey_one.Tie as tie
-use Rattle.merge.proofs.survey_one.Reads as reads
-use Rattle.merge.proofs.survey_one.Lts as lts
-use Rattle.chunk.proofs.child_range.Reads as child-range-reads
-use Rattle.merge.proofs.survey_pair.Reads as survey-pair-reads
-use Rattle.merge.proofs.survey_run.Reads as survey-run-reads
 
 survey-run-requires : tie.Need-survey-run-requires
 survey-run-requires c κs = named-this _ _ _ _ _ _ _ _ _ (c .before .if1 .taken) (c .before .before .before .before .before .before .before .pre)

@@ -1,21 +1,15 @@
 use borrow.Author.Needs.{needs}
 use denote.Ref.{now}
-use Prim.Native.Nat.{ℕ, _≤_, _<_, _+_, _*_, _-_}
-use mathlib.Core.Path.{_≡_, refl, sym, _∙_, ap}
-use mathlib.Core.List.{List, [], _∷_}
+use Prim.Native.Nat.{_+_, _-_}
+use mathlib.Core.Path.{_≡_, refl, sym}
 use native.Mathlib.Omega.{arith}
-use lib.ListN.{length, length-set}
-use Rattle.reports.specs.Survey.{this, that}
-use Rattle.reports.specs.Scratch.{placed, wordsOf, reportWords, pairOf, PairRoom}
-use Rattle.reports.proofs.Placing.{placed-none, length-placed}
+use lib.ListN.{length}
+use Rattle.reports.specs.Scratch.{reportWords}
+use Rattle.reports.proofs.Placing.{placed-none}
 use Rattle.reports.proofs.Ranges.{pair-none, pair-this, pair-that}
 use Rattle.merge.proofs.Along.{Along, along-start, along-length, along-step, along-less, along-end}
 use Rattle.merge.proofs.survey_pair.Statement.{statement}
 use Rattle.merge.proofs.survey_pair.Tie as tie
-use Rattle.merge.proofs.survey_pair.Reads as reads
-use Rattle.merge.proofs.survey_pair.Lts as lts
-use Rattle.merge.proofs.put.Reads as put-reads
-use Rattle.merge.proofs.survey_step.Reads as survey-step-reads
 
 abbrev Inv-loop : tie.InvT-loop
 Inv-loop items0 from0 upper0 items1 from1 upper1 scratch₀ from lower0₀ lower1₀ at₀ scratch lower0 lower1 at = Along items0 from0 upper0 items1 from1 upper1 scratch₀ from scratch lower0 lower1 at

@@ -1,16 +1,8 @@
-use Prim.Native.Nat.{ℕ, _≤_, _<_, _+_, _*_, _-_}
-use mathlib.Core.Path.{_≡_, refl, sym, _∙_, ap}
-use native.Mathlib.Omega.{arith}
-use lib.ListN.{length, getD}
-use denote.Ref.{now}
-use Rattle.reports.proofs.Surveying.{run-written, one-this, one-that, named-this, named-that, pair-room, one-both}
+use Prim.Native.Nat.{_-_}
+use Rattle.reports.proofs.Surveying.{run-written}
 use borrow.Author.Needs.{needs}
 use Rattle.merge.proofs.survey_run.Statement.{statement}
 use Rattle.merge.proofs.survey_run.Tie as tie
-use Rattle.merge.proofs.survey_run.Reads as reads
-use Rattle.merge.proofs.survey_run.Lts as lts
-use Rattle.chunk.proofs.child_range.Reads as child-range-reads
-use Rattle.merge.proofs.put.Reads as put-reads
 
 child-range-requires : tie.Need-child-range-requires
 child-range-requires c κs = search needs

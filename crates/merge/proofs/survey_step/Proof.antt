@@ -1,18 +1,8 @@
-use mathlib.Core.List.{List}
-use Prim.Native.Nat.{ℕ, _≤_, _<_, _+_}
-use mathlib.Core.Path.{_≡_, refl, sym, _∙_, ap}
-use native.Mathlib.Omega.{arith}
-use lib.ListN.{length, length-set}
-use Rattle.reports.specs.Scratch.{placed, wordsOf}
 use Rattle.reports.proofs.Galloping.{rises-on}
 use Rattle.merge.proofs.Stepping.{stepped-both, stepped-this, stepped-that}
 use borrow.Author.Needs.{needs}
 use Rattle.merge.proofs.survey_step.Statement.{statement}
 use Rattle.merge.proofs.survey_step.Tie as tie
-use Rattle.merge.proofs.survey_step.Reads as reads
-use Rattle.merge.proofs.survey_step.Lts as lts
-use Rattle.merge.proofs.gallop.Reads as gallop-reads
-use Rattle.merge.proofs.put.Reads as put-reads
 
 mul-val0 : tie.Need-mul-val0
 mul-val0 c = search needs

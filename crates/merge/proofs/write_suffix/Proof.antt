@@ -3,9 +3,6 @@ use borrow.Author.Needs.{needs}
 use Rattle.merge.proofs.Suffixing.{left-weft, left-written}
 use Rattle.merge.proofs.write_suffix.Statement.{statement}
 use Rattle.merge.proofs.write_suffix.Tie as tie
-use Rattle.merge.proofs.write_suffix.Reads as reads
-use Rattle.merge.proofs.write_suffix.Lts as lts
-use Rattle.merge.proofs.weft.write_from_surveys.Reads as write-from-surveys-reads
 
 slice-aggregate-write-from-surveys : tie.Need-slice-aggregate-write-from-surveys
 slice-aggregate-write-from-surveys c = search needs

@@ -1,6 +1,6 @@
 -- `retain::climb_corners` meets its contract: the corners of the times so far, with the times left, have the least times of all.
 use Prim.Native.Nat.{_-_}
-use mathlib.Core.Path.{sym, _∙_}
+use mathlib.Core.Path.{sym}
 use mathlib.Core.Logic.{⊎-elim}
 use native.Mathlib.Omega.{arith}
 use lib.ListN.{length}
@@ -11,11 +11,6 @@ use Rattle.retain.proofs.Running.{Running, running-start, running-same,
 use borrow.Author.Needs.{needs}
 use Rattle.retain.proofs.climb_corners.Statement.{statement}
 use Rattle.retain.proofs.climb_corners.Tie as tie
-use Rattle.retain.proofs.climb_corners.Reads as reads
-use Rattle.retain.proofs.climb_corners.Lts as lts
-use Rattle.retain.proofs.Frontier.new.Reads as new-reads
-use Rattle.retain.proofs.climb.add_corner.Reads as add-corner-reads
-use Rattle.retain.proofs.look.open_bit.Reads as open-bit-reads
 
 abbrev Inv-loop : tie.InvT-loop
 Inv-loop times upper stairs₀ count₀ number₀ i₀ stairs count number i = Running upper times stairs count number i

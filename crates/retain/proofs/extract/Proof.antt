@@ -18,12 +18,6 @@ use Rattle.laws.proofs.Checked.{passed, failed}
 use borrow.Author.Needs.{needs}
 use Rattle.retain.proofs.extract.Statement.{statement}
 use Rattle.retain.proofs.extract.Tie as tie
-use Rattle.retain.proofs.extract.Reads as reads
-use Rattle.retain.proofs.extract.Lts as lts
-use Rattle.chunk.proofs.check.Reads as check-reads
-use Rattle.retain.proofs.extract_open.Reads as extract-open-reads
-use Rattle.retain.proofs.is_sound.Reads as is-sound-reads
-use Rattle.retain.proofs.refused.Reads as refused-reads
 
 module _ (count : ℕ) (corners w kept shipped : List ℕ) where
   -- refused with this number, and both outputs as they were

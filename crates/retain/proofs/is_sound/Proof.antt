@@ -10,9 +10,6 @@ use Rattle.retain.specs.Frontier.{sound, ordered}
 use borrow.Author.Needs.{needs}
 use Rattle.retain.proofs.is_sound.Statement.{statement}
 use Rattle.retain.proofs.is_sound.Tie as tie
-use Rattle.retain.proofs.is_sound.Reads as reads
-use Rattle.retain.proofs.is_sound.Lts as lts
-use Rattle.retain.proofs.look.in_order.Reads as in-order-reads
 
 too-long : (count : ℕ) (places : List ℕ) → 128 < count → false ≡ sound count places
 unfolding sound

@@ -7,9 +7,6 @@ use Rattle.retain.specs.declared.Verdict.the-variants.{AllKept}
 use borrow.Author.Needs.{needs}
 use Rattle.retain.proofs.refused.Statement.{statement}
 use Rattle.retain.proofs.refused.Tie as tie
-use Rattle.retain.proofs.refused.Reads as reads
-use Rattle.retain.proofs.refused.Lts as lts
-use Rattle.retain.proofs.Frontier.new.Reads as new-reads
 
 -- a refusal with this frontier
 withFrontier : ℕ → Frontier → Extracted

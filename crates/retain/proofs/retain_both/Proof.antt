@@ -8,12 +8,6 @@ use Rattle.retain.proofs.Whole.{whole-chunk, no-chunk}
 use borrow.Author.Needs.{needs}
 use Rattle.retain.proofs.retain_both.Statement.{statement}
 use Rattle.retain.proofs.retain_both.Tie as tie
-use Rattle.retain.proofs.retain_both.Reads as reads
-use Rattle.retain.proofs.retain_both.Lts as lts
-use Rattle.chunk.proofs.write_table.Reads as write-table-reads
-use Rattle.retain.proofs.retain_items.Reads as retain-items-reads
-use Rattle.meld.proofs.copy_into.Reads as copy-into-reads
-use Rattle.retain.proofs.sides.both_of.Reads as both-of-reads
 
 none-left : (n all : ℕ) → n ≡ all → all - n ≡ 0
 none-left n all e = omega arith

@@ -2,12 +2,8 @@
 use native.Mathlib.Omega.{arith}
 use Rattle.retain.proofs.Retained.{cut-bodies, cut-left, cut-over}
 use Rattle.chunk.proofs.Lending.{Lending, lending}
-use borrow.Author.Needs.{needs}
 use Rattle.retain.proofs.retain_items.Statement.{statement}
 use Rattle.retain.proofs.retain_items.Tie as tie
-use Rattle.retain.proofs.retain_items.Reads as reads
-use Rattle.retain.proofs.retain_items.Lts as lts
-use Rattle.retain.proofs.write_bodies.Reads as write-bodies-reads
 
 lent : (a : tie.Start) → Lending (a .args .words .now) (a .args .found)
 lent a = lending _ _ (a .pre .0 .1) (omega (arith, a .good .0))

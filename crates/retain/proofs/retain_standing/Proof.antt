@@ -16,12 +16,6 @@ use Rattle.retain.proofs.Whole.{whole-chunk, no-chunk}
 use borrow.Author.Needs.{needs}
 use Rattle.retain.proofs.retain_standing.Statement.{statement}
 use Rattle.retain.proofs.retain_standing.Tie as tie
-use Rattle.retain.proofs.retain_standing.Reads as reads
-use Rattle.retain.proofs.retain_standing.Lts as lts
-use Rattle.chunk.proofs.write_table.Reads as write-table-reads
-use Rattle.retain.proofs.retain_items.Reads as retain-items-reads
-use Rattle.meld.proofs.copy_into.Reads as copy-into-reads
-use Rattle.retain.proofs.stay.lists_of.Reads as lists-of-reads
 
 counted : (w : List ℕ) (n : ℕ) → wellFormed w ≡ true → n ≡ nd w → n ≡ length (retainedOf All [] w)
 counted w n f e = e ∙ sym (stand-count w f (λ i. true)) ∙ ap length (sym (retained-all w f []))

@@ -2,8 +2,6 @@
 use borrow.Author.Tests.{eq-eqb, ne-eqb}
 use Rattle.retain.proofs.verdict_of.Statement.{statement}
 use Rattle.retain.proofs.verdict_of.Tie as tie
-use Rattle.retain.proofs.verdict_of.Reads as reads
-use Rattle.retain.proofs.verdict_of.Lts as lts
 
 returns : tie.Need-returns
 returns c = simp (eq-eqb _ _ (c .if1 .taken))

@@ -7,11 +7,6 @@ use Rattle.retain.proofs.Weaving.{length-bodiesOut}
 use borrow.Author.Needs.{needs}
 use Rattle.retain.proofs.write_bodies.Statement.{statement}
 use Rattle.retain.proofs.write_bodies.Tie as tie
-use Rattle.retain.proofs.write_bodies.Reads as reads
-use Rattle.retain.proofs.write_bodies.Lts as lts
-use Rattle.chunk.proofs.layout.Reads as layout-reads
-use Rattle.chunk.proofs.write_table.Reads as write-table-reads
-use Rattle.retain.proofs.layers.write_layers.Reads as write-layers-reads
 
 -- src/lib.rt:79:9
 layout-requires : tie.Need-layout-requires

@@ -1,20 +1,15 @@
 -- `survey::count_reports` meets its contract: those counted and those left are all.
-use mathlib.Core.Path.{_≡_, refl, sym, _∙_, ap}
-use Prim.Native.Nat.{ℕ, _+_, _-_, _<_, _≤_}
-use mathlib.Core.List.{List, []}
+use mathlib.Core.Path.{_≡_, ap}
+use Prim.Native.Nat.{_+_, _-_, _≤_}
 use native.Mathlib.Omega.{arith}
 use lib.ListN.{length}
 use borrow.Author.Needs.{needs}
 use Rattle.reports.specs.Survey.{reports}
 use Rattle.reports.specs.Scratch.{pairOf}
 use Rattle.reports.proofs.Ranges.{pair-none}
-use Rattle.survey.specs.Reports.{nextIn}
 use Rattle.survey.proofs.Nexts.{Turn, turn, pair-whole, count-within}
 use Rattle.survey.proofs.count_reports.Statement.{statement}
 use Rattle.survey.proofs.count_reports.Tie as tie
-use Rattle.survey.proofs.count_reports.Reads as reads
-use Rattle.survey.proofs.count_reports.Lts as lts
-use Rattle.survey.proofs.next_in.Reads as next-in-reads
 
 abbrev Inv-loop : tie.InvT-loop
 Inv-loop xs ys all i₀ j₀ count₀ i j count = ((i ≤ length xs) × (j ≤ length ys)) × (count + length (pairOf xs i (length xs) ys j (length ys)) ≡ length (reports xs ys))

@@ -3,9 +3,6 @@ use Rattle.survey.proofs.Inputs.{in-malformed, in-unsettled, in-empty, 
 use borrow.Author.Needs.{needs}
 use Rattle.survey.proofs.input_number.Statement.{statement}
 use Rattle.survey.proofs.input_number.Tie as tie
-use Rattle.survey.proofs.input_number.Reads as reads
-use Rattle.survey.proofs.input_number.Lts as lts
-use Rattle.chunk.proofs.check.Reads as check-reads
 
 -- src/lib.rt:146:9
 check-requires : tie.Need-check-requires

@@ -1,16 +1,10 @@
 -- `survey::keys` meets its contract: the body of the keys, or none.
-use Prim.Native.Nat.{ℕ, _+_, _-_, _≤_}
-use mathlib.Core.Path.{_≡_, sym, _∙_, ap}
+use Prim.Native.Nat.{_-_}
 use native.Mathlib.Omega.{arith}
-use lib.ListN.{length}
-use Rattle.chunk.specs.Words.{nk}
 use Rattle.survey.proofs.Inputs.{fit, unfit, Spread, spread, keys-none, keys-are}
 use borrow.Author.Needs.{needs}
 use Rattle.survey.proofs.keys.Statement.{statement}
 use Rattle.survey.proofs.keys.Tie as tie
-use Rattle.survey.proofs.keys.Reads as reads
-use Rattle.survey.proofs.keys.Lts as lts
-use Rattle.chunk.proofs.read_contents.Reads as read-contents-reads
 
 -- src/lib.rt:45:9
 read-contents-requires : tie.Need-read-contents-requires

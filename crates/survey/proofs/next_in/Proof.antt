@@ -1,19 +1,13 @@
 -- `survey::next_in` meets its contract: one way of the definition for each way of the code.
-use mathlib.Core.Path.{_≡_, sym, _∙_, ap}
-use Prim.Native.Nat.{ℕ, _<_, _≤_}
-use mathlib.Core.List.{List}
+use mathlib.Core.Path.{sym, _∙_, ap}
+use Prim.Native.Nat.{ℕ}
 use native.Mathlib.Omega.{arith}
-use lib.ListN.{getD}
 use Rattle.reports.specs.Survey.{this, that}
 use Rattle.survey.specs.Reports.{nextBy}
 use Rattle.survey.proofs.Nexts.{next-none, next-that-left, next-this-left, next-both, next-this, next-that}
 use borrow.Author.Needs.{needs}
 use Rattle.survey.proofs.next_in.Statement.{statement}
 use Rattle.survey.proofs.next_in.Tie as tie
-use Rattle.survey.proofs.next_in.Reads as reads
-use Rattle.survey.proofs.next_in.Lts as lts
-use Rattle.survey.proofs.made.Reads as made-reads
-use Rattle.survey.proofs.run_end.Reads as run-end-reads
 
 -- src/lib.rt:95:13
 made-requires : tie.Need-made-requires

@@ -1,15 +1,11 @@
 -- `survey::next_report` meets its contract: the next report of the two chunks' keys.
-use mathlib.Core.Path.{_≡_, _∙_, ap}
+use mathlib.Core.Path.{_∙_, ap}
 use Prim.Native.Nat.{ℕ}
 use mathlib.Core.List.{List}
 use Rattle.survey.specs.Reports.{nextIn, keysOf}
 use borrow.Author.Needs.{needs}
 use Rattle.survey.proofs.next_report.Statement.{statement}
 use Rattle.survey.proofs.next_report.Tie as tie
-use Rattle.survey.proofs.next_report.Reads as reads
-use Rattle.survey.proofs.next_report.Lts as lts
-use Rattle.survey.proofs.keys.Reads as keys-reads
-use Rattle.survey.proofs.next_in.Reads as next-in-reads
 
 -- src/lib.rt:119:9
 keys-requires : tie.Need-keys-requires

@@ -1,6 +1,6 @@
 -- `survey::plan` meets its contract: the refusals in document 01's order, and the number of reports.
-use mathlib.Core.Path.{_≡_, sym, _∙_, ap}
-use Prim.Native.Nat.{ℕ, _+_, _≤_, _<_}
+use mathlib.Core.Path.{sym, _∙_, ap}
+use Prim.Native.Nat.{ℕ}
 use mathlib.Core.List.{List}
 use native.Mathlib.Omega.{arith}
 use lib.ListN.{length}
@@ -10,11 +10,6 @@ use Rattle.survey.specs.Reports.{keysOf}
 use Rattle.survey.proofs.Plans.{plan-first, plan-second, plan-short, plan-room}
 use Rattle.survey.proofs.plan.Statement.{statement}
 use Rattle.survey.proofs.plan.Tie as tie
-use Rattle.survey.proofs.plan.Reads as reads
-use Rattle.survey.proofs.plan.Lts as lts
-use Rattle.survey.proofs.count_reports.Reads as count-reports-reads
-use Rattle.survey.proofs.input_number.Reads as input-number-reads
-use Rattle.survey.proofs.keys.Reads as keys-reads
 
 -- src/lib.rt:167:9
 input-number-requires : tie.Need-input-number-requires

@@ -1,15 +1,13 @@
 -- `survey::run_end` meets its contract: the run from where the loop stands ends where the run from the start does.
-use Prim.Native.Nat.{ℕ, _+_, _-_, _≤_, _<_}
-use mathlib.Core.Path.{_≡_, refl, sym, _∙_, ap}
+use Prim.Native.Nat.{_-_, _≤_}
+use mathlib.Core.Path.{_≡_, refl, _∙_}
 use native.Mathlib.Omega.{arith}
-use lib.ListN.{length, getD}
+use lib.ListN.{length}
 use borrow.Author.Needs.{needs}
 use Rattle.reports.specs.Gallop.{runEnd}
 use Rattle.reports.proofs.Galloping.{no-run, run-on}
 use Rattle.survey.proofs.run_end.Statement.{statement}
 use Rattle.survey.proofs.run_end.Tie as tie
-use Rattle.survey.proofs.run_end.Reads as reads
-use Rattle.survey.proofs.run_end.Lts as lts
 
 abbrev Inv-loop : tie.InvT-loop
 Inv-loop keys from target at₀ at = (at ≤ length keys) × (runEnd keys at (length keys) target ≡ runEnd keys from (length keys) target)

@@ -2,7 +2,7 @@
 -- the loop asks `next_report` for one, opens the lent records, stores it and closes them. All that the proof knows of the two is their
 -- contracts; that the records so stored are the survey's is `Fills`.
 use mathlib.Core.Path.{_≡_, refl, sym, _∙_, ap, subst}
-use Prim.Native.Nat.{ℕ, zero, suc, _+_, _-_, _*_, _≤_, _<_, _^_}
+use Prim.Native.Nat.{ℕ, _+_, _-_, _*_, _≤_, _<_, _^_}
 use native.Mathlib.Omega.{arith}
 use mathlib.Core.WellFounded.{WellFounded, InvImage·wf}
 use mathlib.Core.List.{List, [], _∷_}
@@ -21,10 +21,10 @@ use prog.Wp.{Heap, Out, Env, afterSeq, afterBlock, afterTurn, Calls, Loops, Wp, 
 use ghost.Atoms.{Atoms, sem}
 use contract.Monad.{Fun, fact}
 use contract.Running.{givenOf, tables, tablesOf}
-use types.Kit.{Given, Item, ‵, raw, runs, anyQ, atRet, Sq, _⊛_, ⋆, some, later, _$_, _∵_, !, qed, by, move, keep, drop, use1, use2, split, join, pick, rewrite, fsplit, fjoin, suffices, frame, await, done}
+use types.Kit.{Given, Item, ‵, raw, runs, anyQ, atRet, Sq, _⊛_, ⋆, some, later, _$_, _∵_, !, qed, by, move, drop, use1, use2, split, join, pick, rewrite, fsplit, fjoin, suffices, frame, await, done}
 use types.Part.{agg, whole, sub, look-in}
 use types.Run.{look, init, store, store-raw, forget, stop, hop, fld, from, load, lit, of-opd, bin, and-then, no-more, assigns, assigns-last, first, skips, jumps, blocks, branches, land, returns, enter, alloc1, alloc0, params1, pass1, pass0, free1, free0, exec, Below, again, loops}
-use sound.WpLaws.{FmC, fmOf, WpFn-mono}
+use sound.WpLaws.{fmOf, WpFn-mono}
 use denote.RattleType.{owns}
 use denote.Laws.{Is, shows}
 use denote.Memory.{mem, pointee}

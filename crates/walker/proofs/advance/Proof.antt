@@ -4,9 +4,6 @@ use Rattle.walker.specs.Lent.{advancedTo}
 use borrow.Author.Needs.{needs}
 use Rattle.walker.proofs.advance.Statement.{statement}
 use Rattle.walker.proofs.advance.Tie as tie
-use Rattle.walker.proofs.advance.Reads as reads
-use Rattle.walker.proofs.advance.Lts as lts
-use Rattle.walk.proofs.walk_step.Reads as walk-step-reads
 
 -- src/lib.rt:30:9
 walk-step-requires : tie.Need-walk-step-requires

@@ -8,9 +8,6 @@ use Rattle.walker.proofs.Stays.{at-zero, past-zero}
 use borrow.Author.Needs.{needs}
 use Rattle.walker.proofs.begin.Statement.{statement}
 use Rattle.walker.proofs.begin.Tie as tie
-use Rattle.walker.proofs.begin.Reads as reads
-use Rattle.walker.proofs.begin.Lts as lts
-use Rattle.walk.proofs.walk_start.Reads as walk-start-reads
 
 -- a walker and a number, as a start hands them on
 abbrev handed : ℕ → Walker → Begun

@@ -3,12 +3,6 @@ use Rattle.whole.proofs.Parts.{merge-refused, filter-refused, rest-refu
 use borrow.Author.Needs.{needs}
 use Rattle.whole.proofs.merge_whole.Statement.{statement}
 use Rattle.whole.proofs.merge_whole.Tie as tie
-use Rattle.whole.proofs.merge_whole.Reads as reads
-use Rattle.whole.proofs.merge_whole.Lts as lts
-use Rattle.merge.proofs.merge_pair.Reads as merge-pair-reads
-use Rattle.retain.proofs.filter_zero.Reads as filter-zero-reads
-use Rattle.whole.proofs.refused.Reads as refused-reads
-use Rattle.whole.proofs.write_rest.Reads as write-rest-reads
 
 -- src/lib.rt:46:9
 merge-pair-requires : tie.Need-merge-pair-requires

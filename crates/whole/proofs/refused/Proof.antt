@@ -2,8 +2,6 @@
 use Rattle.merge.proofs.Answers.{a-refusal}
 use Rattle.whole.proofs.refused.Statement.{statement}
 use Rattle.whole.proofs.refused.Tie as tie
-use Rattle.whole.proofs.refused.Reads as reads
-use Rattle.whole.proofs.refused.Lts as lts
 
 -- src/lib.rt:12:1
 returns : tie.Need-returns

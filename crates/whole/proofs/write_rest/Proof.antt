@@ -5,9 +5,6 @@ use Rattle.whole.proofs.Parts.{rest-known}
 use borrow.Author.Needs.{needs}
 use Rattle.whole.proofs.write_rest.Statement.{statement}
 use Rattle.whole.proofs.write_rest.Tie as tie
-use Rattle.whole.proofs.write_rest.Reads as reads
-use Rattle.whole.proofs.write_rest.Lts as lts
-use Rattle.merge.proofs.suffix_chunk.Reads as suffix-chunk-reads
 
 -- src/lib.rt:28:29
 enum-told : tie.Need-enum-told

@@ -1,7 +1,7 @@
 -- `yard::front` stays within its buffer, and ends.
 use Prim.Native.Nat.{_≤_, _-_}
 use mathlib.Core.Path.{_≡_}
-use lib.ListN.{length, length-set}
+use lib.ListN.{length}
 use borrow.Author.Needs.{needs}
 use Rattle.yard.proofs.front.Statement.{statement}
 use Rattle.yard.proofs.front.Tie as tie

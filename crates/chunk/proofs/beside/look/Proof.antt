@@ -1,5 +1,5 @@
 -- `chunk::beside::look` meets its contract: either way finds the same, and where the count that is reached is the range's start both start from it.
-use mathlib.Core.Path.{_≡_, sym}
+use mathlib.Core.Path.{_≡_}
 use borrow.Author.Needs.{needs}
 use borrow.Author.Tests.{eqb-true}
 use lib.ListN.{length}

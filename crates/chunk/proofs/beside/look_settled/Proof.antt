@@ -1,9 +1,9 @@
 -- `chunk::beside::look_settled` meets its contract: the falls are those counted so far and those of the times left, and so are the ends and the diffs tested.
-use Prim.Native.Nat.{_≤_, _-_}
+use Prim.Native.Nat.{_-_}
 use mathlib.Core.Path.{_≡_, refl, sym}
 use native.Mathlib.Omega.{arith}
 use borrow.Author.Needs.{needs}
-use lib.ListN.{length, getD}
+use lib.ListN.{getD}
 use denote.Ref.{now}
 use Rattle.chunk.proofs.Falling.{once}
 use Rattle.chunk.proofs.Looking.{Looked, looked-starts, looked-turn, looked-end, Marked, marked-turn, marked-end}

@@ -1,5 +1,5 @@
 -- `chunk::beside::look_stepping` meets its contract: the falls are those counted so far and those of the times left, and so are the changes tested, first with diffs and then without.
-use Prim.Native.Nat.{_<_, _≤_, _-_, _+_}
+use Prim.Native.Nat.{_<_, _≤_, _-_}
 use mathlib.Core.Bool.{_&&_}
 use mathlib.Core.Path.{_≡_, refl, sym, _∙_}
 use native.Mathlib.Omega.{arith}

@@ -1,17 +1,15 @@
 -- `chunk::beside::times_hold` meets its contract: where the ends rise, the lists of each part do where all its falls are at their starts, and the changes hold where they do beside each part.
 use Prim.Native.Nat.{ℕ, suc, _-_}
-use mathlib.Core.Path.{_≡_, refl, sym, _∙_, ap}
-use mathlib.Core.Bool.{Bool, _&&_}
+use mathlib.Core.Path.{_≡_, refl, sym, _∙_}
+use mathlib.Core.Bool.{_&&_}
 use native.Mathlib.Omega.{arith}
 use native.Mathlib.Nat.{sub-zero}
 use borrow.Author.Needs.{needs}
-use borrow.Author.Tests.{not-true, not-false, eq-eqb, ne-eqb, eqb-true}
-use lib.ListN.{length, getD, drop, drop-of-length-le}
+use borrow.Author.Tests.{not-true, not-false, eq-eqb, ne-eqb}
+use lib.ListN.{length, drop}
 use denote.Ref.{now}
-use Rattle.chunk.specs.Entry.{every}
-use Rattle.chunk.specs.Words.{lists, endsRise, endsStep}
 use Rattle.chunk.specs.Beside.{changesHold}
-use Rattle.chunk.proofs.Tests.{and-false, and-true, and-joins}
+use Rattle.chunk.proofs.Tests.{and-false}
 use Rattle.chunk.proofs.Parting.{Tested, next-higher, next-within, next-ahead, falls-within, tested-more}
 use Rattle.chunk.proofs.Looking.{tested-on, times-end}
 use Rattle.chunk.proofs.beside.times_hold.Statement.{statement}

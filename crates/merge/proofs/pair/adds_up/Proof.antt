@@ -6,9 +6,6 @@ use Rattle.merge.proofs.AddingUp.{stands-in, times-serve, sums-are}
 use borrow.Author.Needs.{needs}
 use Rattle.merge.proofs.pair.adds_up.Statement.{statement}
 use Rattle.merge.proofs.pair.adds_up.Tie as tie
-use Rattle.merge.proofs.pair.adds_up.Reads as reads
-use Rattle.merge.proofs.pair.adds_up.Lts as lts
-use Rattle.merge.proofs.pair.sums_fit.Reads as sums-fit-reads
 
 mul-sums-fit : tie.Need-mul-sums-fit
 mul-sums-fit c = let r = reading _ _ (c .before .before .before .pre .first .chunk) in omega (arith, r .end-place, r .whole)

@@ -3,8 +3,6 @@ use borrow.Author.Tests.{not-true, not-false}
 use Rattle.reports.proofs.Admitting.{not-formed, not-settled, without-times, taken}
 use Rattle.merge.proofs.pair.input_refusal.Statement.{statement}
 use Rattle.merge.proofs.pair.input_refusal.Tie as tie
-use Rattle.merge.proofs.pair.input_refusal.Reads as reads
-use Rattle.merge.proofs.pair.input_refusal.Lts as lts
 
 returns : tie.Need-returns
 returns c = not-formed (c .before .before .args .found) (c .if1 .taken)

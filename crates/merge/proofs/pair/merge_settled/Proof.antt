@@ -4,14 +4,6 @@ use Rattle.merge.proofs.Settling.{surveyed, too-large, weft, trails, pl
 use borrow.Author.Needs.{needs}
 use Rattle.merge.proofs.pair.merge_settled.Statement.{statement}
 use Rattle.merge.proofs.pair.merge_settled.Tie as tie
-use Rattle.merge.proofs.pair.merge_settled.Reads as reads
-use Rattle.merge.proofs.pair.merge_settled.Lts as lts
-use Rattle.merge.proofs.pair.adds_up.Reads as adds-up-reads
-use Rattle.merge.proofs.pair.refused.Reads as refused-reads
-use Rattle.merge.proofs.pair.survivor_at.Reads as survivor-at-reads
-use Rattle.merge.proofs.pair.trim_surveys.Reads as trim-surveys-reads
-use Rattle.merge.proofs.survey_layers.Reads as survey-layers-reads
-use Rattle.merge.proofs.weft.write_from_surveys.Reads as write-from-surveys-reads
 
 -- src/pair.rt:248:9
 survey-layers-requires : tie.Need-survey-layers-requires

@@ -7,9 +7,6 @@ use Rattle.reports.proofs.Moving.{reading}
 use Rattle.merge.proofs.Sounding.{found-from, found-list, place-found}
 use Rattle.merge.proofs.pair.place_at.Statement.{statement}
 use Rattle.merge.proofs.pair.place_at.Tie as tie
-use Rattle.merge.proofs.pair.place_at.Reads as reads
-use Rattle.merge.proofs.pair.place_at.Lts as lts
-use Rattle.merge.proofs.gallop.Reads as gallop-reads
 
 add-gallop : tie.Need-add-gallop
 add-gallop c = let r = reading _ _ (c .before .pre .0) in omega (arith, c .before .pre .1, r .counted, r .small)

@@ -2,8 +2,6 @@
 use Rattle.merge.proofs.Answers.{a-refusal}
 use Rattle.merge.proofs.pair.refused.Statement.{statement}
 use Rattle.merge.proofs.pair.refused.Tie as tie
-use Rattle.merge.proofs.pair.refused.Reads as reads
-use Rattle.merge.proofs.pair.refused.Lts as lts
 
 returns : tie.Need-returns
 returns c = a-refusal (c .args .number) (c .pre)

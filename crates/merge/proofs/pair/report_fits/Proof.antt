@@ -7,9 +7,6 @@ use Rattle.reports.proofs.Fitting.{run-fits, shared-fits}
 use borrow.Author.Needs.{needs}
 use Rattle.merge.proofs.pair.report_fits.Statement.{statement}
 use Rattle.merge.proofs.pair.report_fits.Tie as tie
-use Rattle.merge.proofs.pair.report_fits.Reads as reads
-use Rattle.merge.proofs.pair.report_fits.Lts as lts
-use Rattle.merge.proofs.pair.sum_fits.Reads as sum-fits-reads
 
 mul-kind : tie.Need-mul-kind
 mul-kind c = search needs

@@ -4,9 +4,6 @@ use Rattle.reports.proofs.Admitting.{too-many, too-narrow, too-short, enough}
 use borrow.Author.Needs.{needs}
 use Rattle.merge.proofs.pair.room_refusal.Statement.{statement}
 use Rattle.merge.proofs.pair.room_refusal.Tie as tie
-use Rattle.merge.proofs.pair.room_refusal.Reads as reads
-use Rattle.merge.proofs.pair.room_refusal.Lts as lts
-use Rattle.chunk.proofs.layout.Reads as layout-reads
 
 add-layout : tie.Need-add-layout
 add-layout c = search needs

@@ -8,9 +8,6 @@ use Rattle.reports.proofs.Signs.{fits-apart, fits-across, fits-low, fits-high, 
 use borrow.Author.Needs.{needs}
 use Rattle.merge.proofs.pair.sum_fits.Statement.{statement}
 use Rattle.merge.proofs.pair.sum_fits.Tie as tie
-use Rattle.merge.proofs.pair.sum_fits.Reads as reads
-use Rattle.merge.proofs.pair.sum_fits.Lts as lts
-use Rattle.std.proofs.num.wrapping_add_u64.Reads as wrapping-add-u64-reads
 
 wrapping-add-u64-requires : tie.Need-wrapping-add-u64-requires
 wrapping-add-u64-requires c κs = search needs

@@ -8,9 +8,6 @@ use Rattle.reports.specs.Tail.{overflowsBy}
 use Rattle.reports.proofs.Fitting.{Deciding, next-serves, next-decides, decides-not, all-decided}
 use Rattle.merge.proofs.pair.sums_fit.Statement.{statement}
 use Rattle.merge.proofs.pair.sums_fit.Tie as tie
-use Rattle.merge.proofs.pair.sums_fit.Reads as reads
-use Rattle.merge.proofs.pair.sums_fit.Lts as lts
-use Rattle.merge.proofs.pair.report_fits.Reads as report-fits-reads
 
 abbrev Inv-loop : tie.InvT-loop
 Inv-loop first second scratch from count left₀ p₀ left p = Deciding first second scratch (not (overflowsBy first second (reportsAt scratch from count))) p left

@@ -3,9 +3,6 @@ use Rattle.merge.proofs.Trails.{no-trail, first-starts, second-starts, 
 use borrow.Author.Needs.{needs}
 use Rattle.merge.proofs.pair.survivor_at.Statement.{statement}
 use Rattle.merge.proofs.pair.survivor_at.Tie as tie
-use Rattle.merge.proofs.pair.survivor_at.Reads as reads
-use Rattle.merge.proofs.pair.survivor_at.Lts as lts
-use Rattle.merge.proofs.pair.place_at.Reads as place-at-reads
 
 returns : tie.Need-returns
 returns c = let t = c .before .before .before .before in let v = t .args in no-trail (v .words0 .now) (v .found0) (v .words1 .now) (v .found1) (v .scratch .now) (v .at) (v .end) (t .pre) (c .if1 .taken)

@@ -4,8 +4,6 @@ use mathlib.Core.Path.{refl}
 use Rattle.reports.proofs.TrimBack.{not-none, Back, back-none, back-more, back-found, back-shared, back-empty}
 use Rattle.merge.proofs.pair.trim.Statement.{statement}
 use Rattle.merge.proofs.pair.trim.Tie as tie
-use Rattle.merge.proofs.pair.trim.Reads as reads
-use Rattle.merge.proofs.pair.trim.Lts as lts
 
 abbrev Inv-loop : tie.InvT-loop
 Inv-loop scratch from count kind left₀ left = Back scratch from count kind left

@@ -3,9 +3,6 @@ use Rattle.merge.proofs.Trimmed.{spans-are}
 use borrow.Author.Needs.{needs}
 use Rattle.merge.proofs.pair.trim_surveys.Statement.{statement}
 use Rattle.merge.proofs.pair.trim_surveys.Tie as tie
-use Rattle.merge.proofs.pair.trim_surveys.Reads as reads
-use Rattle.merge.proofs.pair.trim_surveys.Lts as lts
-use Rattle.merge.proofs.pair.trim.Reads as trim-reads
 
 trim-requires : tie.Need-trim-requires
 trim-requires c κs = search needs

@@ -2,10 +2,6 @@ use borrow.Author.Needs.{needs}
 use Rattle.merge.proofs.Wefting.{keys-counting, vals-counting, times-counting, places-are}
 use Rattle.merge.proofs.weft.places.Statement.{statement}
 use Rattle.merge.proofs.weft.places.Tie as tie
-use Rattle.merge.proofs.weft.places.Reads as reads
-use Rattle.merge.proofs.weft.places.Lts as lts
-use Rattle.chunk.proofs.layout.Reads as layout-reads
-use Rattle.merge.proofs.write.count_items.Reads as count-items-reads
 
 -- src/pair.rt:243:9
 count-items-requires : tie.Need-count-items-requires

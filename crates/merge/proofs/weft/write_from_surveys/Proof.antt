@@ -1,17 +1,10 @@
 -- `merge::weft::write_from_surveys` meets its contract: layer by layer, and then the table.
-use mathlib.Core.Path.{_≡_, refl, _∙_}
+use mathlib.Core.Path.{refl, _∙_}
 use native.Mathlib.Omega.{arith}
 use Rattle.merge.proofs.Wefting.{in-room, whole-laid}
 use borrow.Author.Needs.{needs}
 use Rattle.merge.proofs.weft.write_from_surveys.Statement.{statement}
 use Rattle.merge.proofs.weft.write_from_surveys.Tie as tie
-use Rattle.merge.proofs.weft.write_from_surveys.Reads as reads
-use Rattle.merge.proofs.weft.write_from_surveys.Lts as lts
-use Rattle.chunk.proofs.write_table.Reads as write-table-reads
-use Rattle.merge.proofs.weft.places.Reads as places-reads
-use Rattle.merge.proofs.weft.write_lower.Reads as write-lower-reads
-use Rattle.merge.proofs.weft.write_middle.Reads as write-middle-reads
-use Rattle.merge.proofs.weft.write_upper.Reads as write-upper-reads
 
 -- src/weft.rt:309:9
 places-requires : tie.Need-places-requires

@@ -1,12 +1,8 @@
-use mathlib.Core.Path.{_≡_, refl}
+use mathlib.Core.Path.{refl}
 use borrow.Author.Needs.{needs}
 use Rattle.merge.proofs.Wefting.{diff-ends-room, diffs-room, diffs-within, lower-laid}
 use Rattle.merge.proofs.weft.write_lower.Statement.{statement}
 use Rattle.merge.proofs.weft.write_lower.Tie as tie
-use Rattle.merge.proofs.weft.write_lower.Reads as reads
-use Rattle.merge.proofs.weft.write_lower.Lts as lts
-use Rattle.merge.proofs.weft.write_change_ends.Reads as write-change-ends-reads
-use Rattle.merge.proofs.weft.write_changes.Reads as write-changes-reads
 
 -- src/weft.rt:249:5
 write-change-ends-requires : tie.Need-write-change-ends-requires

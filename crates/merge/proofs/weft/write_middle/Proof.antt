@@ -1,12 +1,9 @@
 -- `merge::weft::write_middle` meets its contract: the layer of the times.
-use mathlib.Core.Path.{_≡_, refl}
+use mathlib.Core.Path.{refl}
 use Rattle.merge.proofs.Wefting.{times-room, middle-laid}
 use borrow.Author.Needs.{needs}
 use Rattle.merge.proofs.weft.write_middle.Statement.{statement}
 use Rattle.merge.proofs.weft.write_middle.Tie as tie
-use Rattle.merge.proofs.weft.write_middle.Reads as reads
-use Rattle.merge.proofs.weft.write_middle.Lts as lts
-use Rattle.merge.proofs.weft.write_lists.Reads as write-lists-reads
 
 -- src/weft.rt:230:5
 write-lists-requires : tie.Need-write-lists-requires

@@ -1,13 +1,9 @@
 -- `merge::weft::write_upper` meets its contract: the keys, and then the layer of the values.
-use mathlib.Core.Path.{_≡_, refl}
+use mathlib.Core.Path.{refl}
 use Rattle.merge.proofs.Wefting.{keys-room, keys-within, vals-room, upper-laid}
 use borrow.Author.Needs.{needs}
 use Rattle.merge.proofs.weft.write_upper.Statement.{statement}
 use Rattle.merge.proofs.weft.write_upper.Tie as tie
-use Rattle.merge.proofs.weft.write_upper.Reads as reads
-use Rattle.merge.proofs.weft.write_upper.Lts as lts
-use Rattle.merge.proofs.weft.write_keys.Reads as write-keys-reads
-use Rattle.merge.proofs.weft.write_lists.Reads as write-lists-reads
 
 -- src/weft.rt:183:5
 write-keys-requires : tie.Need-write-keys-requires

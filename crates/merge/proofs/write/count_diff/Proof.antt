@@ -1,6 +1,6 @@
 -- `merge::write::count_diff` meets its contract, by the kind of the report.
 use native.Mathlib.Omega.{arith}
-use Prim.Native.Nat.{_+_, _≤_}
+use Prim.Native.Nat.{_+_}
 use lib.ListN.{getD, length}
 use mathlib.Core.List.{[]}
 use Rattle.reports.proofs.WriteEnds.{shared-serves}
@@ -8,9 +8,6 @@ use Rattle.reports.proofs.WriteDiffs.{run-ordered, run-counted, none-written, o
 use borrow.Author.Needs.{needs}
 use Rattle.merge.proofs.write.count_diff.Statement.{statement}
 use Rattle.merge.proofs.write.count_diff.Tie as tie
-use Rattle.merge.proofs.write.count_diff.Reads as reads
-use Rattle.merge.proofs.write.count_diff.Lts as lts
-use Rattle.std.proofs.num.wrapping_add_u64.Reads as wrapping-add-u64-reads
 
 -- src/write.rt:282:16
 mul-kind : tie.Need-mul-kind

@@ -7,9 +7,6 @@ use Rattle.reports.specs.Write.{widths}
 use Rattle.reports.proofs.WriteEnds.{Tallying, next-rising, next-small, next-tally, no-more-tally}
 use Rattle.merge.proofs.write.count_items.Statement.{statement}
 use Rattle.merge.proofs.write.count_items.Tie as tie
-use Rattle.merge.proofs.write.count_items.Reads as reads
-use Rattle.merge.proofs.write.count_items.Lts as lts
-use Rattle.merge.proofs.write.width_of.Reads as width-of-reads
 
 abbrev Inv-loop : tie.InvT-loop
 Inv-loop scratch from count base total₀ left₀ p₀ total left p = Tallying scratch (base + widths (reportsAt scratch from count)) p left total

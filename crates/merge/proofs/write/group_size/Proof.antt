@@ -1,14 +1,11 @@
 -- `merge::write::group_size` meets its contract, by the kind of the report of lists.
 use native.Mathlib.Omega.{arith}
 use borrow.Author.Needs.{needs}
-use Prim.Native.Nat.{_+_, _≤_}
+use Prim.Native.Nat.{_+_}
 use lib.ListN.{getD, length}
 use Rattle.reports.proofs.WriteEnds.{one-under, some-under, shared-serves}
 use Rattle.merge.proofs.write.group_size.Statement.{statement}
 use Rattle.merge.proofs.write.group_size.Tie as tie
-use Rattle.merge.proofs.write.group_size.Reads as reads
-use Rattle.merge.proofs.write.group_size.Lts as lts
-use Rattle.merge.proofs.write.inside.Reads as inside-reads
 
 -- src/write.rt:146:16
 mul-kind : tie.Need-mul-kind

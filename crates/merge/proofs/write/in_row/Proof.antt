@@ -9,8 +9,6 @@ use lib.ListN.{getD}
 use borrow.Author.Needs.{needs}
 use Rattle.merge.proofs.write.in_row.Statement.{statement}
 use Rattle.merge.proofs.write.in_row.Tie as tie
-use Rattle.merge.proofs.write.in_row.Reads as reads
-use Rattle.merge.proofs.write.in_row.Lts as lts
 
 -- src/write.rt:44:8
 sub-if1 : tie.Need-sub-if1

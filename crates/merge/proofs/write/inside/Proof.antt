@@ -1,6 +1,5 @@
 -- `merge::write::inside` meets its contract: with those that are left the count is whole.
 use native.Mathlib.Omega.{arith}
-use mathlib.Core.Path.{refl}
 use lib.ListN.{length}
 use borrow.Author.Tests.{not-true, not-false}
 use Rattle.reports.specs.Scratch.{reportsAt}
@@ -8,9 +7,6 @@ use Rattle.reports.specs.Write.{insideFrom}
 use Rattle.reports.proofs.WriteEnds.{Finding, found-last, found-more, found-all}
 use Rattle.merge.proofs.write.inside.Statement.{statement}
 use Rattle.merge.proofs.write.inside.Tie as tie
-use Rattle.merge.proofs.write.inside.Reads as reads
-use Rattle.merge.proofs.write.inside.Lts as lts
-use Rattle.merge.proofs.write.starts_in.Reads as starts-in-reads
 
 abbrev Inv-loop : tie.InvT-loop
 Inv-loop scratch from count end0 end1 size₀ left₀ p₀ size left p = Finding scratch end0 end1 (length (insideFrom end0 end1 (reportsAt scratch from count))) count p left size

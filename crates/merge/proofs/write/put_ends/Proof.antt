@@ -6,12 +6,6 @@ use Rattle.reports.proofs.WriteRows.{row-placed}
 use borrow.Author.Needs.{needs}
 use Rattle.merge.proofs.write.put_ends.Statement.{statement}
 use Rattle.merge.proofs.write.put_ends.Tie as tie
-use Rattle.merge.proofs.write.put_ends.Reads as reads
-use Rattle.merge.proofs.write.put_ends.Lts as lts
-use Rattle.meld.proofs.copy_shifted.Reads as copy-shifted-reads
-use Rattle.meld.proofs.count_on.Reads as count-on-reads
-use Rattle.merge.proofs.write.in_row.Reads as in-row-reads
-use Rattle.std.proofs.num.wrapping_add_u64.Reads as wrapping-add-u64-reads
 
 -- src/write.rt:57:21
 sub-end : tie.Need-sub-end

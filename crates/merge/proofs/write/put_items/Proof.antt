@@ -4,9 +4,6 @@ use Rattle.reports.proofs.WriteRuns.{put-items-placed}
 use borrow.Author.Needs.{needs}
 use Rattle.merge.proofs.write.put_items.Statement.{statement}
 use Rattle.merge.proofs.write.put_items.Tie as tie
-use Rattle.merge.proofs.write.put_items.Reads as reads
-use Rattle.merge.proofs.write.put_items.Lts as lts
-use Rattle.meld.proofs.copy_into.Reads as copy-into-reads
 
 -- src/write.rt:18:21
 sub-end : tie.Need-sub-end

@@ -4,9 +4,6 @@ use Rattle.reports.proofs.WriteEnds.{one-more, lists-long}
 use borrow.Author.Needs.{needs}
 use Rattle.merge.proofs.write.put_lists.Statement.{statement}
 use Rattle.merge.proofs.write.put_lists.Tie as tie
-use Rattle.merge.proofs.write.put_lists.Reads as reads
-use Rattle.merge.proofs.write.put_lists.Lts as lts
-use Rattle.merge.proofs.write.put_ends.Reads as put-ends-reads
 
 -- src/write.rt:161:16
 sub-last : tie.Need-sub-last

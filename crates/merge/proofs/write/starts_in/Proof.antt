@@ -1,12 +1,10 @@
 -- `merge::write::starts_in` meets its contract.
-use Prim.Native.Nat.{_+_, _≤_}
-use lib.ListN.{getD, length}
+use Prim.Native.Nat.{_+_}
+use lib.ListN.{getD}
 use Rattle.reports.proofs.WriteEnds.{starts-that, starts-other}
 use borrow.Author.Needs.{needs}
 use Rattle.merge.proofs.write.starts_in.Statement.{statement}
 use Rattle.merge.proofs.write.starts_in.Tie as tie
-use Rattle.merge.proofs.write.starts_in.Reads as reads
-use Rattle.merge.proofs.write.starts_in.Lts as lts
 
 -- src/write.rt:112:16
 mul-kind : tie.Need-mul-kind

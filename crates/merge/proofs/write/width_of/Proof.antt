@@ -1,13 +1,11 @@
 -- `merge::write::width_of` meets its contract.
 use native.Mathlib.Omega.{arith}
-use Prim.Native.Nat.{_+_, _≤_}
-use lib.ListN.{getD, length}
+use Prim.Native.Nat.{_+_}
+use lib.ListN.{getD}
 use Rattle.reports.proofs.WriteEnds.{width-one, range-up, width-range}
 use borrow.Author.Needs.{needs}
 use Rattle.merge.proofs.write.width_of.Statement.{statement}
 use Rattle.merge.proofs.write.width_of.Tie as tie
-use Rattle.merge.proofs.write.width_of.Reads as reads
-use Rattle.merge.proofs.write.width_of.Lts as lts
 
 -- src/write.rt:82:16
 mul-kind : tie.Need-mul-kind

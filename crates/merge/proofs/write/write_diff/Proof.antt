@@ -1,16 +1,12 @@
 -- `merge::write::write_diff` meets its contract, by the kind of the report.
 use native.Mathlib.Omega.{arith}
-use Prim.Native.Nat.{_+_, _≤_}
+use Prim.Native.Nat.{_+_}
 use lib.ListN.{getD, length}
 use Rattle.reports.proofs.WriteEnds.{shared-serves}
 use Rattle.reports.proofs.WriteDiffs.{run-written, none-written, one-written, wide-shared}
 use borrow.Author.Needs.{needs}
 use Rattle.merge.proofs.write.write_diff.Statement.{statement}
 use Rattle.merge.proofs.write.write_diff.Tie as tie
-use Rattle.merge.proofs.write.write_diff.Reads as reads
-use Rattle.merge.proofs.write.write_diff.Lts as lts
-use Rattle.merge.proofs.write.write_run.Reads as write-run-reads
-use Rattle.std.proofs.num.wrapping_add_u64.Reads as wrapping-add-u64-reads
 
 -- src/write.rt:238:16
 mul-kind : tie.Need-mul-kind

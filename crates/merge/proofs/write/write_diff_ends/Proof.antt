@@ -6,10 +6,6 @@ use Rattle.reports.specs.Write.{diffEndsBy}
 use Rattle.reports.proofs.WriteDiffs.{Tailing, tail-count, tail-room, next-tailing, no-more-tail}
 use Rattle.merge.proofs.write.write_diff_ends.Statement.{statement}
 use Rattle.merge.proofs.write.write_diff_ends.Tie as tie
-use Rattle.merge.proofs.write.write_diff_ends.Reads as reads
-use Rattle.merge.proofs.write.write_diff_ends.Lts as lts
-use Rattle.merge.proofs.write.count_diff.Reads as count-diff-reads
-use Rattle.merge.proofs.write.write_list.Reads as write-list-reads
 
 abbrev Inv-loop : tie.InvT-loop
 Inv-loop ends0 ends1 first second scratch from count out₀ start left₀ p₀ base₀ at₀ out left p base at = Tailing ends0 ends1 first second scratch (placed start (diffEndsBy ends0 ends1 first second 0 (reportsAt scratch from count)) out₀) out₀ out p left base at

@@ -8,9 +8,6 @@ use Rattle.reports.specs.Write.{diffsBy}
 use Rattle.reports.proofs.WriteDiffs.{Laying, next-diff, next-laying, no-more-diffs}
 use Rattle.merge.proofs.write.write_diffs.Statement.{statement}
 use Rattle.merge.proofs.write.write_diffs.Tie as tie
-use Rattle.merge.proofs.write.write_diffs.Reads as reads
-use Rattle.merge.proofs.write.write_diffs.Lts as lts
-use Rattle.merge.proofs.write.write_diff.Reads as write-diff-reads
 
 abbrev Inv-loop : tie.InvT-loop
 Inv-loop first second scratch from count out₀ at left₀ p₀ end₀ out left p end = Laying first second scratch (placed at (diffsBy first second (reportsAt scratch from count)) out₀) out₀ out (at + length (diffsBy first second (reportsAt scratch from count))) p left end

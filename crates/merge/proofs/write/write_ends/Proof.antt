@@ -1,17 +1,11 @@
 -- `merge::write::write_ends` meets its contract: with the lists that are left the ends are whole.
 use native.Mathlib.Omega.{arith}
-use borrow.Author.Needs.{needs}
 use mathlib.Core.Path.{refl}
 use Rattle.reports.specs.Scratch.{placed, reportsAt}
 use Rattle.reports.specs.Write.{endsBy}
 use Rattle.reports.proofs.WriteEnds.{Ending, group-room, size-some, count-room, list-room, next-ending, no-more-ends}
 use Rattle.merge.proofs.write.write_ends.Statement.{statement}
 use Rattle.merge.proofs.write.write_ends.Tie as tie
-use Rattle.merge.proofs.write.write_ends.Reads as reads
-use Rattle.merge.proofs.write.write_ends.Lts as lts
-use Rattle.merge.proofs.write.count_items.Reads as count-items-reads
-use Rattle.merge.proofs.write.group_size.Reads as group-size-reads
-use Rattle.merge.proofs.write.write_list.Reads as write-list-reads
 
 abbrev Inv-loop : tie.InvT-loop
 Inv-loop ends0 ends1 scratch from lists first items out₀ start left₀ p₀ rest₀ q₀ base₀ at₀ out left p rest q base at = Ending ends0 ends1 scratch (placed start (endsBy ends0 ends1 0 (reportsAt scratch from lists) (reportsAt scratch first items)) out₀) out₀ out p left q rest base at

@@ -6,9 +6,6 @@ use Rattle.reports.specs.Write.{itemsBy}
 use Rattle.reports.proofs.WriteRuns.{Writing, next-room, next-writing, no-more}
 use Rattle.merge.proofs.write.write_items.Statement.{statement}
 use Rattle.merge.proofs.write.write_items.Tie as tie
-use Rattle.merge.proofs.write.write_items.Reads as reads
-use Rattle.merge.proofs.write.write_items.Lts as lts
-use Rattle.merge.proofs.write.write_run.Reads as write-run-reads
 
 abbrev Inv-loop : tie.InvT-loop
 Inv-loop first second scratch from count out₀ at left₀ p₀ end₀ out left p end = Writing first second scratch (placed at (itemsBy first second (reportsAt scratch from count)) out₀) out₀ out p left end

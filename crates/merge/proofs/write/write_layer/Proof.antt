@@ -3,10 +3,6 @@ use mathlib.Core.Path.{_∙_}
 use borrow.Author.Needs.{needs}
 use Rattle.merge.proofs.write.write_layer.Statement.{statement}
 use Rattle.merge.proofs.write.write_layer.Tie as tie
-use Rattle.merge.proofs.write.write_layer.Reads as reads
-use Rattle.merge.proofs.write.write_layer.Lts as lts
-use Rattle.merge.proofs.write.write_ends.Reads as write-ends-reads
-use Rattle.merge.proofs.write.write_items.Reads as write-items-reads
 
 -- src/write.rt:377:5
 write-ends-requires : tie.Need-write-ends-requires

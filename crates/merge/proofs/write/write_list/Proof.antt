@@ -6,10 +6,6 @@ use Rattle.reports.proofs.WriteEnds.{this-lists, that-lists, both-fits, this-en
 use borrow.Author.Needs.{needs}
 use Rattle.merge.proofs.write.write_list.Statement.{statement}
 use Rattle.merge.proofs.write.write_list.Tie as tie
-use Rattle.merge.proofs.write.write_list.Reads as reads
-use Rattle.merge.proofs.write.write_list.Lts as lts
-use Rattle.merge.proofs.write.put_lists.Reads as put-lists-reads
-use Rattle.std.proofs.num.wrapping_sub_u64.Reads as wrapping-sub-u64-reads
 
 -- src/write.rt:182:16
 mul-kind : tie.Need-mul-kind

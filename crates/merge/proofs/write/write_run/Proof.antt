@@ -4,9 +4,6 @@ use Rattle.reports.proofs.WriteRuns.{this-room, that-room, both-room, this-writ
 use borrow.Author.Needs.{needs}
 use Rattle.merge.proofs.write.write_run.Statement.{statement}
 use Rattle.merge.proofs.write.write_run.Tie as tie
-use Rattle.merge.proofs.write.write_run.Reads as reads
-use Rattle.merge.proofs.write.write_run.Lts as lts
-use Rattle.merge.proofs.write.put_items.Reads as put-items-reads
 
 -- src/write.rt:37:16
 mul-kind : tie.Need-mul-kind

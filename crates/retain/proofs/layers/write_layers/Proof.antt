@@ -14,11 +14,6 @@ use Rattle.retain.proofs.Weaving.{Layering, layers-start, layers-within
 use borrow.Author.Needs.{needs}
 use Rattle.retain.proofs.layers.write_layers.Statement.{statement}
 use Rattle.retain.proofs.layers.write_layers.Tie as tie
-use Rattle.retain.proofs.layers.write_layers.Reads as reads
-use Rattle.retain.proofs.layers.write_layers.Lts as lts
-use Rattle.retain.proofs.layers.write_values.Reads as write-values-reads
-use Rattle.meld.proofs.count_on.Reads as count-on-reads
-use Rattle.retain.proofs.stay.bit_of.Reads as bit-of-reads
 
 abbrev Inv-loop : tie.InvT-loop
 Inv-loop keep corners keys val-ends vals time-ends times diff-ends diffs nk nv nt out₀ start₀ time₀ written₀ total₀ at₀ i₀ out start time written total at i =

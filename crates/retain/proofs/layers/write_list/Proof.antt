@@ -18,10 +18,6 @@ use Rattle.retain.proofs.Counts.{range-lower}
 use borrow.Author.Needs.{needs}
 use Rattle.retain.proofs.layers.write_list.Statement.{statement}
 use Rattle.retain.proofs.layers.write_list.Tie as tie
-use Rattle.retain.proofs.layers.write_list.Reads as reads
-use Rattle.retain.proofs.layers.write_list.Lts as lts
-use Rattle.chunk.proofs.child_range.Reads as child-range-reads
-use Rattle.retain.proofs.stay.keeps.Reads as keeps-reads
 
 abbrev Inv-loop : tie.InvT-loop
 Inv-loop keep times corners diff-ends diffs from to done n base out₀ lower₀ at₀ i₀ out lower at i =

@@ -13,10 +13,6 @@ use Rattle.retain.proofs.Stairs.{bit-one}
 use borrow.Author.Needs.{needs}
 use Rattle.retain.proofs.layers.write_values.Statement.{statement}
 use Rattle.retain.proofs.layers.write_values.Tie as tie
-use Rattle.retain.proofs.layers.write_values.Reads as reads
-use Rattle.retain.proofs.layers.write_values.Lts as lts
-use Rattle.retain.proofs.layers.write_list.Reads as write-list-reads
-use Rattle.retain.proofs.stay.bit_of.Reads as bit-of-reads
 
 within : (i to n : ℕ) → i < to → to ≤ n → i < n
 within i to n h g = omega arith

@@ -7,9 +7,6 @@ use Rattle.retain.proofs.Stairs.{bit-one}
 use borrow.Author.Needs.{needs}
 use Rattle.retain.proofs.look.count_open.Statement.{statement}
 use Rattle.retain.proofs.look.count_open.Tie as tie
-use Rattle.retain.proofs.look.count_open.Reads as reads
-use Rattle.retain.proofs.look.count_open.Lts as lts
-use Rattle.retain.proofs.look.open_bit.Reads as open-bit-reads
 
 abbrev Inv-loop : tie.InvT-loop
 Inv-loop times upper number₀ i₀ number i = Opened upper times number i

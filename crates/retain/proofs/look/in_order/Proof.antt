@@ -15,8 +15,6 @@ use Rattle.retain.specs.Frontier.{ordered}
 use borrow.Author.Needs.{needs}
 use Rattle.retain.proofs.look.in_order.Statement.{statement}
 use Rattle.retain.proofs.look.in_order.Tie as tie
-use Rattle.retain.proofs.look.in_order.Reads as reads
-use Rattle.retain.proofs.look.in_order.Lts as lts
 
 none : (l : List ℕ) → length l ≡ 0 → true ≡ ordered l
 unfolding ordered

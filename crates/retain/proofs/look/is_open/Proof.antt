@@ -3,9 +3,6 @@ use Rattle.retain.proofs.Stairs.{bit-true}
 use borrow.Author.Needs.{needs}
 use Rattle.retain.proofs.look.is_open.Statement.{statement}
 use Rattle.retain.proofs.look.is_open.Tie as tie
-use Rattle.retain.proofs.look.is_open.Reads as reads
-use Rattle.retain.proofs.look.is_open.Lts as lts
-use Rattle.retain.proofs.look.open_bit.Reads as open-bit-reads
 
 -- src/look.rt:72:9
 open-bit-requires : tie.Need-open-bit-requires

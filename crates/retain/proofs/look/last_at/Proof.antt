@@ -8,9 +8,6 @@ use Rattle.retain.proofs.Stairs.{Seeking, seek-start, seek-turn, seek-e
 use borrow.Author.Needs.{needs}
 use Rattle.retain.proofs.look.last_at.Statement.{statement}
 use Rattle.retain.proofs.look.last_at.Tie as tie
-use Rattle.retain.proofs.look.last_at.Reads as reads
-use Rattle.retain.proofs.look.last_at.Lts as lts
-use Rattle.retain.proofs.look.not_above.Reads as not-above-reads
 
 abbrev Inv-loop : tie.InvT-loop
 Inv-loop corners t ignition at₀ left₀ at left = (o : ordered corners ≡ true) × Seeking corners t o at left

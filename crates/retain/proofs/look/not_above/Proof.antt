@@ -3,8 +3,6 @@ use Rattle.retain.proofs.Stairs.{half-bit}
 use borrow.Author.Needs.{needs}
 use Rattle.retain.proofs.look.not_above.Statement.{statement}
 use Rattle.retain.proofs.look.not_above.Tie as tie
-use Rattle.retain.proofs.look.not_above.Reads as reads
-use Rattle.retain.proofs.look.not_above.Lts as lts
 
 -- src/look.rt:17:6
 add-result : tie.Need-add-result

@@ -4,10 +4,6 @@ use Rattle.retain.proofs.Stairs.{open-by, open-empty, times-most, bit-o
 use borrow.Author.Needs.{needs}
 use Rattle.retain.proofs.look.open_bit.Statement.{statement}
 use Rattle.retain.proofs.look.open_bit.Tie as tie
-use Rattle.retain.proofs.look.open_bit.Reads as reads
-use Rattle.retain.proofs.look.open_bit.Lts as lts
-use Rattle.retain.proofs.look.last_at.Reads as last-at-reads
-use Rattle.retain.proofs.look.not_above.Reads as not-above-reads
 
 -- src/look.rt:58:9
 returns : tie.Need-returns

@@ -4,10 +4,6 @@ use Rattle.retain.proofs.Stairs.{place-by, bit-one}
 use borrow.Author.Needs.{needs}
 use Rattle.retain.proofs.look.place_of.Statement.{statement}
 use Rattle.retain.proofs.look.place_of.Tie as tie
-use Rattle.retain.proofs.look.place_of.Reads as reads
-use Rattle.retain.proofs.look.place_of.Lts as lts
-use Rattle.retain.proofs.look.last_at.Reads as last-at-reads
-use Rattle.retain.proofs.look.not_above.Reads as not-above-reads
 
 -- src/look.rt:44:9
 returns : tie.Need-returns

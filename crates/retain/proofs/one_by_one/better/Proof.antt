@@ -6,9 +6,6 @@ use borrow.Author.Needs.{needs}
 use borrow.Author.Needs.{needs}
 use Rattle.retain.proofs.one_by_one.better.Statement.{statement}
 use Rattle.retain.proofs.one_by_one.better.Tie as tie
-use Rattle.retain.proofs.one_by_one.better.Reads as reads
-use Rattle.retain.proofs.one_by_one.better.Lts as lts
-use Rattle.retain.proofs.look.is_open.Reads as is-open-reads
 
 returns : tie.Need-returns
 returns c = simp (le-ltb _ _ (c .if1 .taken))

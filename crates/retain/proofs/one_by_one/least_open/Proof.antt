@@ -12,9 +12,6 @@ use Rattle.retain.specs.Found.{leastFrom, betterThan}
 use borrow.Author.Needs.{needs}
 use Rattle.retain.proofs.one_by_one.least_open.Statement.{statement}
 use Rattle.retain.proofs.one_by_one.least_open.Tie as tie
-use Rattle.retain.proofs.one_by_one.least_open.Reads as reads
-use Rattle.retain.proofs.one_by_one.least_open.Lts as lts
-use Rattle.retain.proofs.one_by_one.better.Reads as better-reads
 
 turn : (corners : List ℕ) (limit : ℕ) (times : List ℕ) (found : Bool) (best i : ℕ) → i < length times
     → leastFrom corners limit (drop i times) found best

@@ -9,10 +9,6 @@ use Rattle.retain.proofs.Scan.{Climbing, climb-start, climb-more, climb
 use borrow.Author.Needs.{needs}
 use Rattle.retain.proofs.one_by_one.scan_corners.Statement.{statement}
 use Rattle.retain.proofs.one_by_one.scan_corners.Tie as tie
-use Rattle.retain.proofs.one_by_one.scan_corners.Reads as reads
-use Rattle.retain.proofs.one_by_one.scan_corners.Lts as lts
-use Rattle.retain.proofs.Frontier.new.Reads as new-reads
-use Rattle.retain.proofs.one_by_one.least_open.Reads as least-open-reads
 
 -- too many corners
 fail : Frontier → Corners

@@ -6,9 +6,6 @@ use Rattle.chunk.proofs.Lending.{Lending, lending}
 use native.Mathlib.Omega.{arith}
 use Rattle.retain.proofs.sides.both_of.Statement.{statement}
 use Rattle.retain.proofs.sides.both_of.Tie as tie
-use Rattle.retain.proofs.sides.both_of.Reads as reads
-use Rattle.retain.proofs.sides.both_of.Lts as lts
-use Rattle.retain.proofs.sides.count_both.Reads as count-both-reads
 
 lent : (a : tie.Start) → Lending (a .args .words .now) (a .args .found)
 lent a = lending _ _ (a .pre .0 .1 .0) (omega (arith, a .good .0))

@@ -3,8 +3,6 @@ use mathlib.Core.Path.{sym, ap}
 use Rattle.retain.specs.Layers.{bit}
 use Rattle.retain.proofs.stay.bit_of.Statement.{statement}
 use Rattle.retain.proofs.stay.bit_of.Tie as tie
-use Rattle.retain.proofs.stay.bit_of.Reads as reads
-use Rattle.retain.proofs.stay.bit_of.Lts as lts
 
 -- src/stay.rt:21:9
 returns : tie.Need-returns

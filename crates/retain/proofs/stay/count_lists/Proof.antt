@@ -12,10 +12,6 @@ use Rattle.retain.proofs.Parting.{end-within, reach-next}
 use borrow.Author.Needs.{needs}
 use Rattle.retain.proofs.stay.count_lists.Statement.{statement}
 use Rattle.retain.proofs.stay.count_lists.Tie as tie
-use Rattle.retain.proofs.stay.count_lists.Reads as reads
-use Rattle.retain.proofs.stay.count_lists.Lts as lts
-use Rattle.retain.proofs.stay.bit_of.Reads as bit-of-reads
-use Rattle.retain.proofs.stay.count_values.Reads as count-values-reads
 
 abbrev Inv-loop : tie.InvT-loop
 Inv-loop diff-ends time-ends val-ends keys₀ vals₀ lower₀ below₀ i₀ keys vals lower below i = Listed (listKept (hasDiff diff-ends) time-ends) val-ends keys vals i × (lower ≡ startOf val-ends i) × (below ≡ startOf diff-ends (startOf time-ends lower))

@@ -12,9 +12,6 @@ use Rattle.retain.proofs.Parting.{end-within, standing-left, reach-next
 use borrow.Author.Needs.{needs}
 use Rattle.retain.proofs.stay.count_values.Statement.{statement}
 use Rattle.retain.proofs.stay.count_values.Tie as tie
-use Rattle.retain.proofs.stay.count_values.Reads as reads
-use Rattle.retain.proofs.stay.count_values.Lts as lts
-use Rattle.retain.proofs.stay.bit_of.Reads as bit-of-reads
 
 abbrev Inv-loop : tie.InvT-loop
 Inv-loop diff-ends time-ends from to before count₀ below₀ i₀ count below i = Counted (listKept (hasDiff diff-ends) time-ends) from to count i × (below ≡ startOf diff-ends (startOf time-ends i))

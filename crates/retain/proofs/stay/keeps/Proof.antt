@@ -9,10 +9,6 @@ use Rattle.retain.proofs.Stairs.{bit-one, bit-not}
 use borrow.Author.Needs.{needs}
 use Rattle.retain.proofs.stay.keeps.Statement.{statement}
 use Rattle.retain.proofs.stay.keeps.Tie as tie
-use Rattle.retain.proofs.stay.keeps.Reads as reads
-use Rattle.retain.proofs.stay.keeps.Lts as lts
-use Rattle.retain.proofs.look.open_bit.Reads as open-bit-reads
-use Rattle.retain.proofs.stay.bit_of.Reads as bit-of-reads
 
 -- what a rule says, once it is known
 known : (times corners : List ℕ) (i : ℕ) (k j : Keep) → k ≡ j → keepsAt j times corners i ≡ keepsAt k times corners i

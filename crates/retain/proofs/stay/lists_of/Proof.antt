@@ -5,9 +5,6 @@ use Rattle.chunk.proofs.Lending.{Lending, lending}
 use native.Mathlib.Omega.{arith}
 use Rattle.retain.proofs.stay.lists_of.Statement.{statement}
 use Rattle.retain.proofs.stay.lists_of.Tie as tie
-use Rattle.retain.proofs.stay.lists_of.Reads as reads
-use Rattle.retain.proofs.stay.lists_of.Lts as lts
-use Rattle.retain.proofs.stay.count_lists.Reads as count-lists-reads
 
 lent : (a : tie.Start) → Lending (a .args .words .now) (a .args .found)
 lent a = lending _ _ (a .pre .1) (omega (arith, a .good .0))

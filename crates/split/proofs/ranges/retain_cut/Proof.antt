@@ -13,11 +13,6 @@ use Rattle.split.proofs.Cuts.{part-all, part-none}
 use borrow.Author.Needs.{needs}
 use Rattle.split.proofs.ranges.retain_cut.Statement.{statement}
 use Rattle.split.proofs.ranges.retain_cut.Tie as tie
-use Rattle.split.proofs.ranges.retain_cut.Reads as reads
-use Rattle.split.proofs.ranges.retain_cut.Lts as lts
-use Rattle.chunk.proofs.write_table.Reads as write-table-reads
-use Rattle.split.proofs.ranges.retain_range.Reads as retain-range-reads
-use Rattle.meld.proofs.copy_into.Reads as copy-into-reads
 
 apart : (a b : ℕ) → a ≤ b → (a ≡ b → ⊥) → a < b
 apart a b h n = omega (arith, n)

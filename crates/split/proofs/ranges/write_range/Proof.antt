@@ -11,10 +11,6 @@ use Rattle.split.proofs.Spans.{length-part, ends-above, range-written}
 use borrow.Author.Needs.{needs}
 use Rattle.split.proofs.ranges.write_range.Statement.{statement}
 use Rattle.split.proofs.ranges.write_range.Tie as tie
-use Rattle.split.proofs.ranges.write_range.Reads as reads
-use Rattle.split.proofs.ranges.write_range.Lts as lts
-use Rattle.split.proofs.ranges.write_less.Reads as write-less-reads
-use Rattle.meld.proofs.copy_into.Reads as copy-into-reads
 
 sub-n : tie.Need-sub-n
 sub-n c = search needs

@@ -10,10 +10,6 @@ use Rattle.meld.proofs.Copy.{copied-sets, put-copy, put-count}
 use borrow.Author.Needs.{needs}
 use Rattle.split.proofs.ranges.write_run.Statement.{statement}
 use Rattle.split.proofs.ranges.write_run.Tie as tie
-use Rattle.split.proofs.ranges.write_run.Reads as reads
-use Rattle.split.proofs.ranges.write_run.Lts as lts
-use Rattle.meld.proofs.copy_into.Reads as copy-into-reads
-use Rattle.meld.proofs.count_on.Reads as count-on-reads
 
 add-diffs-at : tie.Need-add-diffs-at
 add-diffs-at c = search needs

@@ -1,8 +1,7 @@
 -- `yard::extracts::stair` stays within its buffer, and ends.
 use Prim.Native.Nat.{_≤_, _-_}
 use mathlib.Core.Path.{_≡_}
-use native.Mathlib.Omega.{arith}
-use lib.ListN.{length, length-set}
+use lib.ListN.{length}
 use borrow.Author.Needs.{needs}
 use Rattle.yard.proofs.extracts.stair.Statement.{statement}
 use Rattle.yard.proofs.extracts.stair.Tie as tie

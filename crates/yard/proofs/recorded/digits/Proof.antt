@@ -4,9 +4,6 @@ use lib.ListN.{length}
 use borrow.Author.Needs.{needs}
 use Rattle.yard.proofs.recorded.digits.Statement.{statement}
 use Rattle.yard.proofs.recorded.digits.Tie as tie
-use Rattle.yard.proofs.recorded.digits.Reads as reads
-use Rattle.yard.proofs.recorded.digits.Lts as lts
-use Rattle.yard.proofs.recorded.digit.Reads as digit-reads
 
 abbrev Inv-loop : tie.InvT-loop
 Inv-loop text from word₀ at₀ word at = from ≤ at

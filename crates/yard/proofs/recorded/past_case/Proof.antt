@@ -3,9 +3,6 @@ use native.Mathlib.Omega.{arith}
 use borrow.Author.Needs.{needs}
 use Rattle.yard.proofs.recorded.past_case.Statement.{statement}
 use Rattle.yard.proofs.recorded.past_case.Tie as tie
-use Rattle.yard.proofs.recorded.past_case.Reads as reads
-use Rattle.yard.proofs.recorded.past_case.Lts as lts
-use Rattle.yard.proofs.recorded.past.Reads as past-reads
 
 -- src/recorded.rt:204:9
 past-requires : tie.Need-past-requires

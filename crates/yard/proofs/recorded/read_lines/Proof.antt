@@ -4,9 +4,6 @@ use lib.ListN.{length}
 use borrow.Author.Needs.{needs}
 use Rattle.yard.proofs.recorded.read_lines.Statement.{statement}
 use Rattle.yard.proofs.recorded.read_lines.Tie as tie
-use Rattle.yard.proofs.recorded.read_lines.Reads as reads
-use Rattle.yard.proofs.recorded.read_lines.Lts as lts
-use Rattle.yard.proofs.recorded.step.Reads as step-reads
 
 abbrev Inv-loop : tie.InvT-loop
 Inv-loop text out₀ at₀ start₀ past₀ out at start past = (start < past) × (past ≤ 4096)

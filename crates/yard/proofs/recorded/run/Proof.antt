@@ -6,11 +6,6 @@ use lib.ListN.{length}
 use borrow.Author.Needs.{needs}
 use Rattle.yard.proofs.recorded.run.Statement.{statement}
 use Rattle.yard.proofs.recorded.run.Tie as tie
-use Rattle.yard.proofs.recorded.run.Reads as reads
-use Rattle.yard.proofs.recorded.run.Lts as lts
-use Rattle.yard.proofs.recorded.past_case.Reads as past-case-reads
-use Rattle.yard.proofs.recorded.replayed.Reads as replayed-reads
-use Rattle.yard.proofs.recorded.tell.Reads as tell-reads
 
 abbrev Inv-loop : tie.InvT-loop
 Inv-loop words at₀ cases₀ same₀ at cases same = (same ≤ cases) × (cases ≤ at)

@@ -5,11 +5,6 @@ use lib.ListN.{length}
 use borrow.Author.Needs.{needs}
 use Rattle.yard.proofs.recorded.walked_over.Statement.{statement}
 use Rattle.yard.proofs.recorded.walked_over.Tie as tie
-use Rattle.yard.proofs.recorded.walked_over.Reads as reads
-use Rattle.yard.proofs.recorded.walked_over.Lts as lts
-use Rattle.host.proofs.rl_walk_start.Reads as rl-walk-start-reads
-use Rattle.host.proofs.rl_walk_step.Reads as rl-walk-step-reads
-use Rattle.yard.proofs.same.Reads as same-reads
 
 abbrev Inv-loop : tie.InvT-loop
 Inv-loop a x walker₀ record₀ i₀ walker «record» i = (i ≤ length x) × (length walker ≡ length walker₀) × (length «record» ≡ length record₀)

@@ -29,75 +29,57 @@ fits : (w : List ℕ) → tableSize ≤ length w → size w ≤ length w → lay
 unfolding contentsOf
 fits w h k = simp (le-leb _ _ h, le-leb (size w) (length w) k)
 
--- src/lib.rt:72:9
 nothing-requires : tie.Need-nothing-requires
 nothing-requires c κs = search needs
 
--- src/lib.rt:72:9
 returns : tie.Need-returns
 returns c = c .nothing .ensures ∙ short _ (search needs)
 
--- src/lib.rt:74:14
 shared-slice-read-nk : tie.Need-shared-slice-read-nk
 shared-slice-read-nk c = search needs
 
--- src/lib.rt:75:14
 shared-slice-read-nv : tie.Need-shared-slice-read-nv
 shared-slice-read-nv c = search needs
 
--- src/lib.rt:76:14
 shared-slice-read-nt : tie.Need-shared-slice-read-nt
 shared-slice-read-nt c = search needs
 
--- src/lib.rt:77:14
 shared-slice-read-nd : tie.Need-shared-slice-read-nd
 shared-slice-read-nd c = search needs
 
--- src/lib.rt:79:9
 nothing-requires-2 : tie.Need-nothing-requires-2
 nothing-requires-2 c κs = search needs
 
--- src/lib.rt:79:9
 returns-2 : tie.Need-returns-2
 returns-2 c = c .nothing2 .ensures ∙ misfit _ (omega arith)
 
--- src/lib.rt:82:9
 nothing-requires-3 : tie.Need-nothing-requires-3
 nothing-requires-3 c κs = search needs
 
--- src/lib.rt:82:9
 returns-3 : tie.Need-returns-3
 returns-3 c = c .nothing3 .ensures ∙ misfit _ (omega arith)
 
--- src/lib.rt:85:9
 nothing-requires-4 : tie.Need-nothing-requires-4
 nothing-requires-4 c κs = search needs
 
--- src/lib.rt:85:9
 returns-4 : tie.Need-returns-4
 returns-4 c = c .nothing4 .ensures ∙ misfit _ (omega arith)
 
--- src/lib.rt:88:9
 nothing-requires-5 : tie.Need-nothing-requires-5
 nothing-requires-5 c κs = search needs
 
--- src/lib.rt:88:9
 returns-5 : tie.Need-returns-5
 returns-5 c = c .nothing5 .ensures ∙ misfit _ (omega arith)
 
--- src/lib.rt:90:9
 places-requires : tie.Need-places-requires
 places-requires c κs = search needs
 
--- src/lib.rt:93:9
 nothing-requires-6 : tie.Need-nothing-requires-6
 nothing-requires-6 c κs = search needs
 
--- src/lib.rt:93:9
 returns-6 : tie.Need-returns-6
 returns-6 c = c .nothing6 .ensures ∙ misfit _ (omega (arith, ap (λ (x : Contents). x .size) (c .before .before .places .ensures)))
 
--- src/lib.rt:67:1
 returns-7 : tie.Need-returns-7
 returns-7 c = c .before .places .ensures ∙ fits _ (omega arith) (omega (arith, ap (λ (x : Contents). x .size) (c .before .places .ensures)))
 

@@ -5,107 +5,81 @@ use borrow.Author.Needs.{needs}
 use Rattle.form.proofs.store.Statement.{statement}
 use Rattle.form.proofs.store.Tie as tie
 
--- src/lib.rt:188:13
 sub-k : tie.Need-sub-k
 sub-k c = search needs
 
--- src/lib.rt:189:13
 sub-v : tie.Need-sub-v
 sub-v c = search needs
 
--- src/lib.rt:190:13
 sub-t : tie.Need-sub-t
 sub-t c = search needs
 
--- src/lib.rt:198:9
 add-out : tie.Need-add-out
 add-out c = omega arith
 
--- src/lib.rt:198:5
 mul-out : tie.Need-mul-out
 mul-out c = omega arith
 
--- src/lib.rt:198:5
 slice-write-out : tie.Need-slice-write-out
 slice-write-out c = omega arith
 
--- src/lib.rt:199:9
 add-out-2 : tie.Need-add-out-2
 add-out-2 c = omega arith
 
--- src/lib.rt:199:5
 mul-out-2 : tie.Need-mul-out-2
 mul-out-2 c = omega arith
 
--- src/lib.rt:199:5
 slice-write-out-2 : tie.Need-slice-write-out-2
 slice-write-out-2 c = simp length-set (omega arith)
 
--- src/lib.rt:200:9
 add-out-3 : tie.Need-add-out-3
 add-out-3 c = omega arith
 
--- src/lib.rt:200:5
 mul-out-3 : tie.Need-mul-out-3
 mul-out-3 c = omega arith
 
--- src/lib.rt:200:5
 slice-write-out-3 : tie.Need-slice-write-out-3
 slice-write-out-3 c = simp length-set (omega arith)
 
--- src/lib.rt:201:9
 add-out-4 : tie.Need-add-out-4
 add-out-4 c = omega arith
 
--- src/lib.rt:201:5
 mul-out-4 : tie.Need-mul-out-4
 mul-out-4 c = omega arith
 
--- src/lib.rt:201:5
 slice-write-out-4 : tie.Need-slice-write-out-4
 slice-write-out-4 c = simp length-set (omega arith)
 
--- src/lib.rt:202:9
 add-out-5 : tie.Need-add-out-5
 add-out-5 c = omega arith
 
--- src/lib.rt:202:5
 mul-out-5 : tie.Need-mul-out-5
 mul-out-5 c = omega arith
 
--- src/lib.rt:202:5
 slice-write-out-5 : tie.Need-slice-write-out-5
 slice-write-out-5 c = simp length-set (omega arith)
 
--- src/lib.rt:203:9
 add-out-6 : tie.Need-add-out-6
 add-out-6 c = omega arith
 
--- src/lib.rt:203:5
 mul-out-6 : tie.Need-mul-out-6
 mul-out-6 c = omega arith
 
--- src/lib.rt:203:5
 slice-write-out-6 : tie.Need-slice-write-out-6
 slice-write-out-6 c = simp length-set (omega arith)
 
--- src/lib.rt:204:9
 add-out-7 : tie.Need-add-out-7
 add-out-7 c = omega arith
 
--- src/lib.rt:204:5
 mul-out-7 : tie.Need-mul-out-7
 mul-out-7 c = omega arith
 
--- src/lib.rt:204:5
 slice-write-out-7 : tie.Need-slice-write-out-7
 slice-write-out-7 c = simp length-set (omega arith)
 
--- src/lib.rt:182:1
 same-length : tie.Need-same-length
 same-length c = simp length-set
 
--- src/lib.rt:182:1
 returns : tie.Need-returns
 returns c = search needs
 

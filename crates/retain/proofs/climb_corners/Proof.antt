@@ -18,67 +18,51 @@ Inv-loop times upper stairs₀ count₀ number₀ i₀ stairs count number i = R
 abbrev μ-loop : tie.MeasureT-loop
 μ-loop times upper stairs₀ count₀ number₀ i₀ stairs count number i = length times - i
 
--- src/lib.rt:289:5
 loop-holds : tie.Need-loop-holds Inv-loop μ-loop
 loop-holds c = running-start _ _
 
--- src/lib.rt:290:20
 mul-time : tie.Need-mul-time Inv-loop μ-loop
 mul-time c = search needs
 
--- src/lib.rt:290:20
 shared-slice-read-time : tie.Need-shared-slice-read-time Inv-loop μ-loop
 shared-slice-read-time c = search needs
 
--- src/lib.rt:291:20
 open-bit-requires : tie.Need-open-bit-requires Inv-loop μ-loop
 open-bit-requires c κs = c .before .before .before .before .before .pre
 
--- src/lib.rt:292:30
 array-share-prefix-stairs : tie.Need-array-share-prefix-stairs Inv-loop μ-loop
 array-share-prefix-stairs c = search needs
 
--- src/lib.rt:292:30
 slice-aggregate-open-bit : tie.Need-slice-aggregate-open-bit Inv-loop μ-loop
 slice-aggregate-open-bit c = sym (standing-length _ _ (c .before .before .before .before .loop .inv .standing))
 
--- src/lib.rt:292:21
 open-bit-requires-2 : tie.Need-open-bit-requires-2 Inv-loop μ-loop
 open-bit-requires-2 c κs = c .before .before .before .before .loop .inv .standing .stairs
 
--- src/lib.rt:293:9
 add-number : tie.Need-add-number Inv-loop μ-loop
 add-number c = let w = c .before .before .before .before .before .loop .inv .opened in let f = w .few in let o = w .onward in let b = bit-one _ _ (c .before .before .open-bit .ensures) in omega arith
 
--- src/lib.rt:295:32
 slice-aggregate-add-corner : tie.Need-slice-aggregate-add-corner Inv-loop μ-loop
 slice-aggregate-add-corner c = search needs
 
--- src/lib.rt:295:13
 add-corner-requires : tie.Need-add-corner-requires Inv-loop μ-loop
 add-corner-requires c κs = let l = c .before .before .before .before .before .before .before .loop in (l .inv .standing, newly _ _ _ _ _ (l .i) (l .inv) (c .before .before .before .before .before .before .loop-test .taken) _ _ (c .before .before .open-bit2 .ensures) (c .before .before .before .before .open-bit .ensures) (c .before .if1 .taken) .0)
 
--- src/lib.rt:300:31
 new-requires : tie.Need-new-requires Inv-loop μ-loop
 new-requires c κs = search needs
 
--- src/lib.rt:297:17
 returns : tie.Need-returns Inv-loop μ-loop
 returns c = λ h. absurd (true-not-false (sym h))
 
--- src/lib.rt:304:9
 add-i : tie.Need-add-i Inv-loop μ-loop
 add-i c = search needs
 
--- src/lib.rt:289:5
 loop-less : tie.Need-loop-less Inv-loop μ-loop
 loop-less c = search needs
 
--- src/lib.rt:289:5
 loop-again : tie.Need-loop-again Inv-loop μ-loop
 loop-again c = let l = c .before .before .before .before .before .before .loop in let t = c .before .before .before .before .before .loop-test .taken in let k = c .before .open-bit2 .ensures in let o = c .before .before .before .open-bit .ensures in ⊎-elim (λ w. let n = newly _ _ _ _ _ (l .i) (l .inv) t _ _ k o (w .0 .taken) in rw (w .5, w .6, n .1 .1) (running-on _ _ _ _ _ (l .i) (l .inv) t _ _ (n .0) (n .1 .0) (w .2 .ensures) (w .4 .left))) (λ w. rw (w .1, w .2) (running-same _ _ _ _ _ (l .i) (l .inv) t _ _ k o (w .0 .left))) (c .if1 .came)
 
--- src/lib.rt:281:1
 returns-2 : tie.Need-returns-2 Inv-loop μ-loop
 returns-2 c = λ h. let l = c .before .loop in running-end _ _ _ _ _ _ (l .inv) (c .loop-test .left)
 

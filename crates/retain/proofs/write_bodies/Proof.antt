@@ -8,39 +8,30 @@ use borrow.Author.Needs.{needs}
 use Rattle.retain.proofs.write_bodies.Statement.{statement}
 use Rattle.retain.proofs.write_bodies.Tie as tie
 
--- src/lib.rt:79:9
 layout-requires : tie.Need-layout-requires
 layout-requires c κs = search needs
 
--- src/lib.rt:82:5
 write-table-requires : tie.Need-write-table-requires
 write-table-requires c κs = search needs
 
--- src/lib.rt:96:9
 mul-write-layers : tie.Need-mul-write-layers
 mul-write-layers c = let a = c .before .before .before .before .before .before .before .before .before .before .before .before .before .before in let f = a .pre .1 .1 .0 in let u = out-cuts _ (a .args .nk) (a .args .nv) (a .args .nt) _ (c .before .before .before .before .layout .ensures) (f .fewKeys) (f .fewVals) (f .fewTimes) (a .pre .1 .1 .1) in u .keysSmall
 
--- src/lib.rt:96:9
 sub-write-layers : tie.Need-sub-write-layers
 sub-write-layers c = let a = c .before .before .before .before .before .before .before .before .before .before .before .before .before .before in let f = a .pre .1 .1 .0 in let u = out-cuts _ (a .args .nk) (a .args .nv) (a .args .nt) _ (c .before .before .before .before .layout .ensures) (f .fewKeys) (f .fewVals) (f .fewTimes) (a .pre .1 .1 .1) in let s = whole-size _ _ _ _ _ u in up-to _ _ _ s
 
--- src/lib.rt:96:9
 part-write-layers-start : tie.Need-part-write-layers-start
 part-write-layers-start c = let a = c .before .before .before .before .before .before .before .before .before .before .before .before .before .before in let f = a .pre .1 .1 .0 in let u = out-cuts _ (a .args .nk) (a .args .nv) (a .args .nt) _ (c .before .before .before .before .layout .ensures) (f .fewKeys) (f .fewVals) (f .fewTimes) (a .pre .1 .1 .1) in let s = whole-size _ _ _ _ _ u in up-to _ _ _ s
 
--- src/lib.rt:96:9
 part-write-layers-end : tie.Need-part-write-layers-end
 part-write-layers-end c = let a = c .before .before .before .before .before .before .before .before .before .before .before .before .before .before in let f = a .pre .1 .1 .0 in let u = out-cuts _ (a .args .nk) (a .args .nv) (a .args .nt) _ (c .before .before .before .before .layout .ensures) (f .fewKeys) (f .fewVals) (f .fewTimes) (a .pre .1 .1 .1) in within-as _ _ _ (u .timesIn) (c .before .before .write-table .kept .0)
 
--- src/lib.rt:83:5
 write-layers-requires : tie.Need-write-layers-requires
 write-layers-requires c κs = let a = c .before .before .before .before .before .before .before .before .before .before .before .before .before .before .before in let f = a .pre .1 .1 .0 in let u = out-cuts _ (a .args .nk) (a .args .nv) (a .args .nt) _ (c .before .before .before .before .before .layout .ensures) (f .fewKeys) (f .fewVals) (f .fewTimes) (a .pre .1 .1 .1) in (a .pre .0, (a .pre .1 .0, (f, part-length _ _ _ _ (whole-size _ _ _ _ _ u) (within-as _ _ _ (u .timesIn) (c .before .before .before .write-table .kept .0)))))
 
--- src/lib.rt:58:1
 same-length : tie.Need-same-length
 same-length c = search needs
 
--- src/lib.rt:58:1
 returns : tie.Need-returns
 returns c = let a = c .before .before .before .before .before .before .before .before .before .before .before .before .before .before .before .before .before .before in let f = a .pre .1 .1 .0 in let u = out-cuts _ (a .args .nk) (a .args .nv) (a .args .nt) _ (c .before .before .before .before .before .before .before .before .layout .ensures) (f .fewKeys) (f .fewVals) (f .fewTimes) (a .pre .1 .1 .1) in let l = c .before .before .before .before .before .before .before .before .layout in put-one (a .args .out .now) _ (tableOf (a .args .nk) (a .args .nv) (a .args .nt) (a .args .nt)) _ _ (l .result .«keys_at») (l .result .size) (c .before .before .before .before .before .before .write-table .ensures ∙ table-front (a .args .nk) (a .args .nv) (a .args .nt) (a .args .nt) (a .args .out .now) (u .tableIn)) (c .before .before .write-layers .ensures) (u .keysAt) (whole-size _ _ _ _ _ u ∙ ap (λ (n : ℕ). l .result .«keys_at» + n) (sym (length-bodiesOut _ (a .args .keys .now) (a .args .val-ends .now) (a .args .vals .now) (a .args .time-ends .now) (a .args .times .now) (a .args .diff-ends .now) (a .args .diffs .now) (a .args .nk) (a .args .nv) (a .args .nt) f)))
 

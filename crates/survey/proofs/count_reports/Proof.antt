@@ -17,35 +17,27 @@ Inv-loop xs ys all i₀ j₀ count₀ i j count = ((i ≤ length xs) × (j ≤ l
 abbrev μ-loop : tie.MeasureT-loop
 μ-loop xs ys all i₀ j₀ count₀ i j count = length xs + length ys - (i + j)
 
--- src/lib.rt:128:15
 add-all : tie.Need-add-all Inv-loop μ-loop
 add-all c = search needs
 
--- src/lib.rt:132:5
 loop-holds : tie.Need-loop-holds Inv-loop μ-loop
 loop-holds c = let s = c .before .before in ((omega arith, omega arith), omega (arith, ap length (pair-whole (s .args .xs .now) (s .args .ys .now))))
 
--- src/lib.rt:132:11
 add-loop : tie.Need-add-loop Inv-loop μ-loop
 add-loop c = let v = c .loop .inv in let p = v .0 .0 in let q = v .0 .1 in search needs
 
--- src/lib.rt:133:13
 next-in-requires : tie.Need-next-in-requires Inv-loop μ-loop
 next-in-requires c κs = search needs
 
--- src/lib.rt:137:9
 add-count : tie.Need-add-count Inv-loop μ-loop
 add-count c = let s = c .before .before .before .before .before .before in let xs = s .args .xs .now in let ys = s .args .ys .now in let v = c .before .before .before .loop .inv in let i = c .before .before .before .loop .i in let j = c .before .before .before .loop .j in let k = count-within xs ys in let e = v .1 in search needs
 
--- src/lib.rt:132:5
 loop-less : tie.Need-loop-less Inv-loop μ-loop
 loop-less c = let s = c .before .before .before .before .before .before in let xs = s .args .xs .now in let ys = s .args .ys .now in let v = c .before .before .before .loop .inv in let i = c .before .before .before .loop .i in let j = c .before .before .before .loop .j in let t : Turn xs ys i j (c .before .next-in .result) = rw (c .before .next-in .ensures) (turn xs ys i j (v .0 .0) (v .0 .1) (c .before .before .loop-test .taken)) in omega (arith, t .on, t .in-i, t .in-j, c .before .before .loop-test .taken)
 
--- src/lib.rt:132:5
 loop-again : tie.Need-loop-again Inv-loop μ-loop
 loop-again c = let s = c .before .before .before .before .before .before in let xs = s .args .xs .now in let ys = s .args .ys .now in let v = c .before .before .before .loop .inv in let i = c .before .before .before .loop .i in let j = c .before .before .before .loop .j in let t : Turn xs ys i j (c .before .next-in .result) = rw (c .before .next-in .ensures) (turn xs ys i j (v .0 .0) (v .0 .1) (c .before .before .loop-test .taken)) in ((t .in-i, t .in-j), omega (arith, v .1, ap length (t .split)))
 
--- src/lib.rt:125:1
 returns : tie.Need-returns Inv-loop μ-loop
 returns c = let s = c .before .before .before .before in let xs = s .args .xs .now in let ys = s .args .ys .now in let v = c .before .loop .inv in let i = c .before .loop .i in let j = c .before .loop .j in omega (arith, v .1, ap length (pair-none xs i (length xs) ys j (length ys) (omega (arith, v .0 .0, v .0 .1, c .loop-test .left)) (omega (arith, v .0 .0, v .0 .1, c .loop-test .left))))
 

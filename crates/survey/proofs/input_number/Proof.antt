@@ -4,23 +4,18 @@ use borrow.Author.Needs.{needs}
 use Rattle.survey.proofs.input_number.Statement.{statement}
 use Rattle.survey.proofs.input_number.Tie as tie
 
--- src/lib.rt:146:9
 check-requires : tie.Need-check-requires
 check-requires c κs = search needs
 
--- src/lib.rt:149:9
 returns : tie.Need-returns
 returns c = let k = c .before .check in in-malformed _ (k .result) (k .ensures) (c .if1 .taken)
 
--- src/lib.rt:153:9
 returns-2 : tie.Need-returns-2
 returns-2 c = let k = c .before .before .check in in-unsettled _ (k .result) (k .ensures) (c .before .if1 .left) (c .if2 .taken)
 
--- src/lib.rt:158:9
 returns-3 : tie.Need-returns-3
 returns-3 c = let k = c .before .before .before .before .check in in-empty _ (k .result) (k .ensures) (c .before .before .before .if1 .left) (c .before .before .if2 .left) (c .if3 .taken)
 
--- src/lib.rt:143:1
 returns-4 : tie.Need-returns-4
 returns-4 c = let k = c .before .before .before .before .check in in-taken _ (k .result) (k .ensures) (c .before .before .before .if1 .left) (c .before .before .if2 .left) (c .if3 .left)
 

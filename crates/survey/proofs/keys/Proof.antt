@@ -6,47 +6,36 @@ use borrow.Author.Needs.{needs}
 use Rattle.survey.proofs.keys.Statement.{statement}
 use Rattle.survey.proofs.keys.Tie as tie
 
--- src/lib.rt:45:9
 read-contents-requires : tie.Need-read-contents-requires
 read-contents-requires c κs = search needs
 
--- src/lib.rt:49:16
 mul-result : tie.Need-mul-result
 mul-result c = search needs
 
--- src/lib.rt:49:16
 sub-result : tie.Need-sub-result
 sub-result c = search needs
 
--- src/lib.rt:49:16
 part-result-start : tie.Need-part-result-start
 part-result-start c = search needs
 
--- src/lib.rt:49:16
 part-result-end : tie.Need-part-result-end
 part-result-end c = search needs
 
--- src/lib.rt:49:9
 returns : tie.Need-returns
 returns c = let w = c .before .before .before .before .args .words .now in let m = c .before .before .read-contents in keys-none w (unfit w (m .result) (m .ensures) (c .before .if1 .taken))
 
--- src/lib.rt:53:5
 mul-result-2 : tie.Need-mul-result-2
 mul-result-2 c = let w = c .before .before .before .args .words .now in let m = c .before .read-contents in let g : Spread w (m .result) = spread w (m .result) (fit w (m .result) (m .ensures) (c .if1 .left)) in let a = g .from-is in let b = g .to-is in let d = g .within in omega (arith, a)
 
--- src/lib.rt:53:5
 sub-result-2 : tie.Need-sub-result-2
 sub-result-2 c = let w = c .before .before .before .args .words .now in let m = c .before .read-contents in let g : Spread w (m .result) = spread w (m .result) (fit w (m .result) (m .ensures) (c .if1 .left)) in let a = g .from-is in let b = g .to-is in let d = g .within in omega (arith, a, b)
 
--- src/lib.rt:53:5
 part-result-start-2 : tie.Need-part-result-start-2
 part-result-start-2 c = let w = c .before .before .before .args .words .now in let m = c .before .read-contents in let g : Spread w (m .result) = spread w (m .result) (fit w (m .result) (m .ensures) (c .if1 .left)) in let a = g .from-is in let b = g .to-is in let d = g .within in omega (arith, a, b)
 
--- src/lib.rt:53:5
 part-result-end-2 : tie.Need-part-result-end-2
 part-result-end-2 c = let w = c .before .before .before .args .words .now in let m = c .before .read-contents in let g : Spread w (m .result) = spread w (m .result) (fit w (m .result) (m .ensures) (c .if1 .left)) in let a = g .from-is in let b = g .to-is in let d = g .within in omega (arith, a, b, d)
 
--- src/lib.rt:42:1
 returns-2 : tie.Need-returns-2
 returns-2 c = let w = c .before .before .before .before .args .words .now in let m = c .before .before .read-contents in keys-are w (m .result) (fit w (m .result) (m .ensures) (c .before .if1 .left))
 

@@ -9,83 +9,63 @@ use borrow.Author.Needs.{needs}
 use Rattle.survey.proofs.next_in.Statement.{statement}
 use Rattle.survey.proofs.next_in.Tie as tie
 
--- src/lib.rt:95:13
 made-requires : tie.Need-made-requires
 made-requires c κs = search needs
 
--- src/lib.rt:95:13
 returns : tie.Need-returns
 returns c = let s = c .before .before .before .before .before in let xs = s .args .xs .now in let ys = s .args .ys .now in let i = s .args .spot .i in let j = s .args .spot .j in c .made .ensures ∙ sym (next-none xs ys i j (c .before .before .if1 .taken) (c .before .if2 .taken))
 
--- src/lib.rt:97:9
 made-requires-2 : tie.Need-made-requires-2
 made-requires-2 c κs = search needs
 
--- src/lib.rt:97:9
 returns-2 : tie.Need-returns-2
 returns-2 c = let s = c .before .before .before .before .before in let xs = s .args .xs .now in let ys = s .args .ys .now in let i = s .args .spot .i in let j = s .args .spot .j in c .made2 .ensures ∙ sym (next-that-left xs ys i j (c .before .before .if1 .taken) (search needs))
 
--- src/lib.rt:100:9
 made-requires-3 : tie.Need-made-requires-3
 made-requires-3 c κs = search needs
 
--- src/lib.rt:100:9
 returns-3 : tie.Need-returns-3
 returns-3 c = let s = c .before .before .before .before .before in let xs = s .args .xs .now in let ys = s .args .ys .now in let i = s .args .spot .i in let j = s .args .spot .j in c .made3 .ensures ∙ sym (next-this-left xs ys i j (search needs) (c .before .if3 .taken))
 
--- src/lib.rt:102:13
 mul-x : tie.Need-mul-x
 mul-x c = search needs
 
--- src/lib.rt:102:13
 shared-slice-read-x : tie.Need-shared-slice-read-x
 shared-slice-read-x c = search needs
 
--- src/lib.rt:103:13
 mul-y : tie.Need-mul-y
 mul-y c = search needs
 
--- src/lib.rt:103:13
 shared-slice-read-y : tie.Need-shared-slice-read-y
 shared-slice-read-y c = search needs
 
--- src/lib.rt:105:33
 add-made : tie.Need-add-made
 add-made c = search needs
 
--- src/lib.rt:105:40
 add-made-2 : tie.Need-add-made-2
 add-made-2 c = search needs
 
--- src/lib.rt:105:9
 made-requires-4 : tie.Need-made-requires-4
 made-requires-4 c κs = search needs
 
--- src/lib.rt:105:9
 returns-4 : tie.Need-returns-4
 returns-4 c = let s = c .before .before .before .before .before .before .before .before in let xs = s .args .xs .now in let ys = s .args .ys .now in let i = s .args .spot .i in let j = s .args .spot .j in c .made4 .ensures ∙ sym (next-both xs ys i j (search needs) (search needs) (c .before .if4 .taken))
 
--- src/lib.rt:108:13
 run-end-requires : tie.Need-run-end-requires
 run-end-requires c κs = search needs
 
--- src/lib.rt:109:9
 made-requires-5 : tie.Need-made-requires-5
 made-requires-5 c κs = search needs
 
--- src/lib.rt:109:9
 returns-5 : tie.Need-returns-5
 returns-5 c = let s = c .before .before .before .before .before .before .before .before .before .before in let xs = s .args .xs .now in let ys = s .args .ys .now in let i = s .args .spot .i in let j = s .args .spot .j in c .made5 .ensures ∙ ap (λ (e : ℕ). nextBy i j (this i e)) (c .before .run-end .ensures) ∙ sym (next-this xs ys i j (search needs) (search needs) (c .before .before .if5 .taken))
 
--- src/lib.rt:111:9
 run-end-requires-2 : tie.Need-run-end-requires-2
 run-end-requires-2 c κs = search needs
 
--- src/lib.rt:112:5
 made-requires-6 : tie.Need-made-requires-6
 made-requires-6 c κs = search needs
 
--- src/lib.rt:86:1
 returns-6 : tie.Need-returns-6
 returns-6 c = let s = c .before .before .before .before .before .before .before .before .before .before in let xs = s .args .xs .now in let ys = s .args .ys .now in let i = s .args .spot .i in let j = s .args .spot .j in c .made6 .ensures ∙ ap (λ (e : ℕ). nextBy i j (that j e)) (c .before .run-end2 .ensures) ∙ sym (next-that xs ys i j (search needs) (search needs) (omega (arith, c .before .before .if5 .left, c .before .before .before .if4 .left)))
 

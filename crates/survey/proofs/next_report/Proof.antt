@@ -7,19 +7,15 @@ use borrow.Author.Needs.{needs}
 use Rattle.survey.proofs.next_report.Statement.{statement}
 use Rattle.survey.proofs.next_report.Tie as tie
 
--- src/lib.rt:119:9
 keys-requires : tie.Need-keys-requires
 keys-requires c κs = search needs
 
--- src/lib.rt:120:9
 keys-requires-2 : tie.Need-keys-requires-2
 keys-requires-2 c κs = search needs
 
--- src/lib.rt:121:5
 next-in-requires : tie.Need-next-in-requires
 next-in-requires c κs = search needs
 
--- src/lib.rt:116:1
 returns : tie.Need-returns
 returns c = let s = c .before .before .before .before .before in let a = s .args .a .now in let i = s .args .spot .i in let j = s .args .spot .j in c .next-in .ensures ∙ ap (λ (l : List ℕ). nextIn l (c .before .keys2 .result .now) i j) (c .before .before .keys .ensures) ∙ ap (λ (l : List ℕ). nextIn (keysOf a) l i j) (c .before .keys2 .ensures)
 

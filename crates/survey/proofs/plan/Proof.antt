@@ -11,43 +11,33 @@ use Rattle.survey.proofs.Plans.{plan-first, plan-second, plan-short, pl
 use Rattle.survey.proofs.plan.Statement.{statement}
 use Rattle.survey.proofs.plan.Tie as tie
 
--- src/lib.rt:167:9
 input-number-requires : tie.Need-input-number-requires
 input-number-requires c κs = search needs
 
--- src/lib.rt:169:9
 returns : tie.Need-returns
 returns c = let s = c .before .before .before .before in let a = s .args .a .now in let b = s .args .b .now in let lent = s .args .lent in plan-first a b lent _ (c .before .input-number .ensures) (c .if1 .taken)
 
--- src/lib.rt:171:9
 input-number-requires-2 : tie.Need-input-number-requires-2
 input-number-requires-2 c κs = search needs
 
--- src/lib.rt:173:9
 returns-2 : tie.Need-returns-2
 returns-2 c = let s = c .before .before .before .before .before .before in let a = s .args .a .now in let b = s .args .b .now in let lent = s .args .lent in plan-second a b lent (sym (c .before .before .before .input-number .ensures) ∙ c .before .before .if1 .left) _ (c .before .input-number2 .ensures) (c .if2 .taken)
 
--- src/lib.rt:175:9
 keys-requires : tie.Need-keys-requires
 keys-requires c κs = search needs
 
--- src/lib.rt:176:9
 keys-requires-2 : tie.Need-keys-requires-2
 keys-requires-2 c κs = search needs
 
--- src/lib.rt:177:15
 add-if3 : tie.Need-add-if3
 add-if3 c = let p = c .before .keys in let q = c .keys2 in search needs
 
--- src/lib.rt:178:9
 returns-3 : tie.Need-returns-3
 returns-3 c = let s = c .before .before .before .before .before .before .before .before .before in let a = s .args .a .now in let b = s .args .b .now in let lent = s .args .lent in plan-short a b lent (sym (c .before .before .before .before .before .before .input-number .ensures) ∙ c .before .before .before .before .before .if1 .left) (sym (c .before .before .before .before .input-number2 .ensures) ∙ c .before .before .before .if2 .left) (omega (arith, c .if3 .taken, ap length (c .before .before .keys .ensures), ap length (c .before .keys2 .ensures)))
 
--- src/lib.rt:180:9
 count-reports-requires : tie.Need-count-reports-requires
 count-reports-requires c κs = search needs
 
--- src/lib.rt:164:1
 returns-4 : tie.Need-returns-4
 returns-4 c = let s = c .before .before .before .before .before .before .before .before .before .before in let a = s .args .a .now in let b = s .args .b .now in let lent = s .args .lent in plan-room a b lent (sym (c .before .before .before .before .before .before .before .input-number .ensures) ∙ c .before .before .before .before .before .before .if1 .left) (sym (c .before .before .before .before .before .input-number2 .ensures) ∙ c .before .before .before .before .if2 .left) (omega (arith, c .before .if3 .left, ap length (c .before .before .before .keys .ensures), ap length (c .before .before .keys2 .ensures))) _ (c .count-reports .ensures ∙ ap (λ (l : List ℕ). length (reports l (c .before .before .keys2 .result .now))) (c .before .before .before .keys .ensures) ∙ ap (λ (l : List ℕ). length (reports (keysOf a) l)) (c .before .before .keys2 .ensures))
 

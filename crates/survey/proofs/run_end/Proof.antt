@@ -15,35 +15,27 @@ Inv-loop keys from target at₀ at = (at ≤ length keys) × (runEnd keys at (le
 abbrev μ-loop : tie.MeasureT-loop
 μ-loop keys from target at₀ at = length keys - at
 
--- src/lib.rt:62:5
 loop-holds : tie.Need-loop-holds Inv-loop μ-loop
 loop-holds c = (c .pre, refl)
 
--- src/lib.rt:63:22
 mul-if1 : tie.Need-mul-if1 Inv-loop μ-loop
 mul-if1 c = search needs
 
--- src/lib.rt:63:22
 shared-slice-read-if1 : tie.Need-shared-slice-read-if1 Inv-loop μ-loop
 shared-slice-read-if1 c = search needs
 
--- src/lib.rt:64:13
 returns : tie.Need-returns Inv-loop μ-loop
 returns c = let i = c .before .before .before .loop .inv in no-run _ _ _ _ (i .0) (omega arith) (λ _. c .if1 .taken) ∙ i .1
 
--- src/lib.rt:66:9
 add-at : tie.Need-add-at Inv-loop μ-loop
 add-at c = search needs
 
--- src/lib.rt:62:5
 loop-less : tie.Need-loop-less Inv-loop μ-loop
 loop-less c = search needs
 
--- src/lib.rt:62:5
 loop-again : tie.Need-loop-again Inv-loop μ-loop
 loop-again c = let i = c .before .before .before .loop .inv in (search needs, run-on _ _ _ _ (search needs) (omega arith) (search needs) ∙ i .1)
 
--- src/lib.rt:57:1
 returns-2 : tie.Need-returns-2 Inv-loop μ-loop
 returns-2 c = let i = c .before .loop .inv in no-run _ _ _ _ (i .0) (omega arith) (λ h. absurd (search needs)) ∙ i .1
 

@@ -5,31 +5,24 @@ use borrow.Author.Needs.{needs}
 use Rattle.walker.proofs.advance.Statement.{statement}
 use Rattle.walker.proofs.advance.Tie as tie
 
--- src/lib.rt:30:9
 walk-step-requires : tie.Need-walk-step-requires
 walk-step-requires c κs = search needs
 
--- src/lib.rt:32:29
 enum-known-went : tie.Need-enum-known-went
 enum-known-went c = search needs
 
--- src/lib.rt:38:20
 enum-told : tie.Need-enum-told
 enum-told c = search needs
 
--- src/lib.rt:42:20
 enum-told-2 : tie.Need-enum-told-2
 enum-told-2 c = search needs
 
--- src/lib.rt:27:1
 returns : tie.Need-returns
 returns c = let s = c .before .before .before .before .before in ap (advancedTo (s .args .w)) (sym (c .before .went .given .1) ∙ c .before .before .before .walk-step .ensures)
 
--- src/lib.rt:27:1
 returns-2 : tie.Need-returns-2
 returns-2 c = let s = c .before .before .before .before in ap (advancedTo (s .args .w)) (sym (c .enum-told .given .1) ∙ c .before .before .walk-step .ensures)
 
--- src/lib.rt:27:1
 returns-3 : tie.Need-returns-3
 returns-3 c = let s = c .before .before .before .before in ap (advancedTo (s .args .w)) (sym (c .enum-told2 .given .1) ∙ c .before .before .walk-step .ensures)
 

@@ -13,18 +13,15 @@ use Rattle.walker.proofs.begin.Tie as tie
 abbrev handed : ℕ → Walker → Begun
 handed n w = record { walker = w; number = n }
 
--- src/lib.rt:51:9
 walk-start-requires : tie.Need-walk-start-requires
 walk-start-requires c κs = search needs
 
--- src/lib.rt:54:9
 returns : tie.Need-returns
 returns c =
     let s = c .before .before .before in
     let m = c .before .walk-start in
     ap (handed (m .result .number)) (sym (past-zero (m .result .number) (m .result .walker) (s .args .w) (c .if1 .taken))) ∙ ap (begunAt (s .args .w)) (m .ensures)
 
--- src/lib.rt:48:1
 returns-2 : tie.Need-returns-2
 returns-2 c =
     let s = c .before .before .before .before in

@@ -3,7 +3,6 @@ use Rattle.merge.proofs.Answers.{a-refusal}
 use Rattle.whole.proofs.refused.Statement.{statement}
 use Rattle.whole.proofs.refused.Tie as tie
 
--- src/lib.rt:12:1
 returns : tie.Need-returns
 returns c = a-refusal (c .args .number) (c .pre)
 

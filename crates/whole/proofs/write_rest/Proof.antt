@@ -6,45 +6,35 @@ use borrow.Author.Needs.{needs}
 use Rattle.whole.proofs.write_rest.Statement.{statement}
 use Rattle.whole.proofs.write_rest.Tie as tie
 
--- src/lib.rt:28:29
 enum-told : tie.Need-enum-told
 enum-told c = search needs
 
--- src/lib.rt:29:25
 enum-known-survivor : tie.Need-enum-known-survivor
 enum-known-survivor c = search needs
 
--- src/lib.rt:29:37
 suffix-chunk-requires : tie.Need-suffix-chunk-requires
 suffix-chunk-requires c κs = search needs
 
--- src/lib.rt:30:26
 enum-known-survivor-2 : tie.Need-enum-known-survivor-2
 enum-known-survivor-2 c = search needs
 
--- src/lib.rt:30:38
 suffix-chunk-requires-2 : tie.Need-suffix-chunk-requires-2
 suffix-chunk-requires-2 c κs = search needs
 
--- src/lib.rt:23:1
 returns : tie.Need-returns
 unfolding restNumber restOut
 returns c = rest-known _ _ _ _ _ _ _ (c .enum-told .given .1) refl refl
 
--- src/lib.rt:23:1
 same-length : tie.Need-same-length
 same-length c = search needs
 
--- src/lib.rt:23:1
 returns-2 : tie.Need-returns-2
 unfolding restNumber restOut
 returns-2 c = rest-known _ _ _ _ _ _ _ (c .before .before .before .before .before .survivor .given .1) (c .before .before .suffix-chunk .ensures .0) (c .before .before .suffix-chunk .ensures .1)
 
--- src/lib.rt:23:1
 same-length-2 : tie.Need-same-length-2
 same-length-2 c = search needs
 
--- src/lib.rt:23:1
 returns-3 : tie.Need-returns-3
 unfolding restNumber restOut
 returns-3 c = rest-known _ _ _ _ _ _ _ (c .before .before .before .before .before .survivor2 .given .1) (c .before .before .suffix-chunk2 .ensures .0) (c .before .before .suffix-chunk2 .ensures .1)

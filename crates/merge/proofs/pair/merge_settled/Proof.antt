@@ -5,55 +5,42 @@ use borrow.Author.Needs.{needs}
 use Rattle.merge.proofs.pair.merge_settled.Statement.{statement}
 use Rattle.merge.proofs.pair.merge_settled.Tie as tie
 
--- src/pair.rt:248:9
 survey-layers-requires : tie.Need-survey-layers-requires
 survey-layers-requires c κs = search needs
 
--- src/pair.rt:249:9
 adds-up-requires : tie.Need-adds-up-requires
 adds-up-requires c κs = surveyed (c .before .before .before .before .before .before .before .before .before .args .words0 .now) (c .before .before .before .before .before .before .before .before .before .args .found0) (c .before .before .before .before .before .before .before .before .before .args .words1 .now) (c .before .before .before .before .before .before .before .before .before .args .found1) (c .before .before .before .before .before .before .before .before .before .args .scratch .now) _ (c .before .before .before .before .before .before .before .before .before .args .out .now) _ (c .before .before .before .before .before .before .before .before .before .pre) (c .before .before .before .survey-layers .ensures) (c .before .before .scratch .given)
 
--- src/pair.rt:250:9
 refused-requires : tie.Need-refused-requires
 refused-requires c κs = search needs
 
--- src/pair.rt:250:9
 same-length : tie.Need-same-length
 same-length c = search needs
 
--- src/pair.rt:250:9
 returns : tie.Need-returns
 returns c = too-large (c .before .before .before .before .before .before .before .before .before .before .before .before .args .words0 .now) (c .before .before .before .before .before .before .before .before .before .before .before .before .args .found0) (c .before .before .before .before .before .before .before .before .before .before .before .before .args .words1 .now) (c .before .before .before .before .before .before .before .before .before .before .before .before .args .found1) (c .before .before .before .before .before .before .before .before .before .before .before .before .args .scratch .now) _ (c .before .before .before .before .before .before .before .before .before .before .before .before .args .out .now) _ (c .before .before .before .before .before .before .before .before .before .before .before .before .pre) (c .before .before .before .before .before .before .survey-layers .ensures) (c .before .before .before .before .before .scratch .given) _ (c .before .before .adds-up .ensures) (c .before .if1 .taken) _ (c .refused .ensures)
 
--- src/pair.rt:252:9
 trim-surveys-requires : tie.Need-trim-surveys-requires
 trim-surveys-requires c κs = surveyed-stand _ _ _ _ _ _ (surveyed (c .before .before .before .before .before .before .before .before .before .before .before .before .args .words0 .now) (c .before .before .before .before .before .before .before .before .before .before .before .before .args .found0) (c .before .before .before .before .before .before .before .before .before .before .before .before .args .words1 .now) (c .before .before .before .before .before .before .before .before .before .before .before .before .args .found1) (c .before .before .before .before .before .before .before .before .before .before .before .before .args .scratch .now) _ (c .before .before .before .before .before .before .before .before .before .before .before .before .args .out .now) _ (c .before .before .before .before .before .before .before .before .before .before .before .before .pre) (c .before .before .before .before .before .before .survey-layers .ensures) (c .before .before .before .before .before .scratch .given))
 
--- src/pair.rt:253:5
 write-from-surveys-requires : tie.Need-write-from-surveys-requires
 write-from-surveys-requires c κs = weft (c .before .before .before .before .before .before .before .before .before .before .before .before .before .before .before .args .words0 .now) (c .before .before .before .before .before .before .before .before .before .before .before .before .before .before .before .args .found0) (c .before .before .before .before .before .before .before .before .before .before .before .before .before .before .before .args .words1 .now) (c .before .before .before .before .before .before .before .before .before .before .before .before .before .before .before .args .found1) (c .before .before .before .before .before .before .before .before .before .before .before .before .before .before .before .args .scratch .now) _ (c .before .before .before .before .before .before .before .before .before .before .before .before .before .before .before .args .out .now) _ (c .before .before .before .before .before .before .before .before .before .before .before .before .before .before .before .pre) (c .before .before .before .before .before .before .before .before .before .survey-layers .ensures) (c .before .before .before .before .before .before .before .before .scratch .given) _ (c .before .before .trim-surveys .ensures)
 
--- src/pair.rt:254:31
 mul-at : tie.Need-mul-at
 mul-at c = record { fits = omega (arith, place-stands (c .before .before .before .before .before .before .before .before .before .before .before .before .before .before .before .before .before .before .before .args .words0 .now) (c .before .before .before .before .before .before .before .before .before .before .before .before .before .before .before .before .before .before .before .args .found0) (c .before .before .before .before .before .before .before .before .before .before .before .before .before .before .before .before .before .before .before .args .words1 .now) (c .before .before .before .before .before .before .before .before .before .before .before .before .before .before .before .before .before .before .before .args .found1) (c .before .before .before .before .before .before .before .before .before .before .before .before .before .before .before .before .before .before .before .args .scratch .now) _ (c .before .before .before .before .before .before .before .before .before .before .before .before .before .before .before .before .before .before .before .args .out .now) _ (c .before .before .before .before .before .before .before .before .before .before .before .before .before .before .before .before .before .before .before .pre) (c .before .before .before .before .before .before .before .before .before .before .before .before .before .survey-layers .ensures) (c .before .before .before .before .before .before .before .before .before .before .before .before .scratch .given) _ (c .before .before .before .before .before .before .trim-surveys .ensures), c .before .before .before .before .before .before .before .before .before .before .before .before .before .before .before .before .before .before .before .good) }
 
--- src/pair.rt:254:14
 add-at : tie.Need-add-at
 add-at c = record { fits = omega (arith, place-stands (c .before .before .before .before .before .before .before .before .before .before .before .before .before .before .before .before .before .before .before .before .args .words0 .now) (c .before .before .before .before .before .before .before .before .before .before .before .before .before .before .before .before .before .before .before .before .args .found0) (c .before .before .before .before .before .before .before .before .before .before .before .before .before .before .before .before .before .before .before .before .args .words1 .now) (c .before .before .before .before .before .before .before .before .before .before .before .before .before .before .before .before .before .before .before .before .args .found1) (c .before .before .before .before .before .before .before .before .before .before .before .before .before .before .before .before .before .before .before .before .args .scratch .now) _ (c .before .before .before .before .before .before .before .before .before .before .before .before .before .before .before .before .before .before .before .before .args .out .now) _ (c .before .before .before .before .before .before .before .before .before .before .before .before .before .before .before .before .before .before .before .before .pre) (c .before .before .before .before .before .before .before .before .before .before .before .before .before .before .survey-layers .ensures) (c .before .before .before .before .before .before .before .before .before .before .before .before .before .scratch .given) _ (c .before .before .before .before .before .before .before .trim-surveys .ensures), c .before .before .before .before .before .before .before .before .before .before .before .before .before .before .before .before .before .before .before .before .good) }
 
--- src/pair.rt:255:9
 survivor-at-requires : tie.Need-survivor-at-requires
 survivor-at-requires c κs = trails (c .before .before .before .before .before .before .before .before .before .before .before .before .before .before .before .before .before .before .before .before .before .args .words0 .now) (c .before .before .before .before .before .before .before .before .before .before .before .before .before .before .before .before .before .before .before .before .before .args .found0) (c .before .before .before .before .before .before .before .before .before .before .before .before .before .before .before .before .before .before .before .before .before .args .words1 .now) (c .before .before .before .before .before .before .before .before .before .before .before .before .before .before .before .before .before .before .before .before .before .args .found1) (c .before .before .before .before .before .before .before .before .before .before .before .before .before .before .before .before .before .before .before .before .before .args .scratch .now) _ (c .before .before .before .before .before .before .before .before .before .before .before .before .before .before .before .before .before .before .before .before .before .args .out .now) _ (c .before .before .before .before .before .before .before .before .before .before .before .before .before .before .before .before .before .before .before .before .before .pre) (c .before .before .before .before .before .before .before .before .before .before .before .before .before .before .before .survey-layers .ensures) (c .before .before .before .before .before .before .before .before .before .before .before .before .before .before .scratch .given) _ (c .before .before .before .before .before .before .before .before .trim-surveys .ensures)
 
--- src/pair.rt:237:1
 same-length-2 : tie.Need-same-length-2
 same-length-2 c = search needs
 
--- src/pair.rt:237:1
 same-length-3 : tie.Need-same-length-3
 same-length-3 c = search needs
 
--- src/pair.rt:237:1
 returns-2 : tie.Need-returns-2
 returns-2 c = settled-merge (c .before .before .before .before .before .before .before .before .before .before .before .before .before .before .before .before .before .before .before .before .before .before .args .words0 .now) (c .before .before .before .before .before .before .before .before .before .before .before .before .before .before .before .before .before .before .before .before .before .before .args .found0) (c .before .before .before .before .before .before .before .before .before .before .before .before .before .before .before .before .before .before .before .before .before .before .args .words1 .now) (c .before .before .before .before .before .before .before .before .before .before .before .before .before .before .before .before .before .before .before .before .before .before .args .found1) (c .before .before .before .before .before .before .before .before .before .before .before .before .before .before .before .before .before .before .before .before .before .before .args .scratch .now) _ (c .before .before .before .before .before .before .before .before .before .before .before .before .before .before .before .before .before .before .before .before .before .before .args .out .now) _ (c .before .before .before .before .before .before .before .before .before .before .before .before .before .before .before .before .before .before .before .before .before .before .pre) (c .before .before .before .before .before .before .before .before .before .before .before .before .before .before .before .before .survey-layers .ensures) (c .before .before .before .before .before .before .before .before .before .before .before .before .before .before .before .scratch .given) _ (c .before .before .before .before .before .before .before .before .before .trim-surveys .ensures) _ (c .before .before .before .before .before .before .before .before .before .before .before .before .adds-up .ensures) (c .before .before .before .before .before .before .before .before .before .before .before .if1 .left) _ (c .before .before .before .before .before .before .write-from-surveys .ensures) _ (c .survivor-at .ensures)
 

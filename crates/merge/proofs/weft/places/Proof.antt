@@ -3,23 +3,18 @@ use Rattle.merge.proofs.Wefting.{keys-counting, vals-counting, times-co
 use Rattle.merge.proofs.weft.places.Statement.{statement}
 use Rattle.merge.proofs.weft.places.Tie as tie
 
--- src/pair.rt:243:9
 count-items-requires : tie.Need-count-items-requires
 count-items-requires c κs = keys-counting _ _ _ _ _ _ _ (c .before .before .before .pre)
 
--- src/pair.rt:244:9
 count-items-requires-2 : tie.Need-count-items-requires-2
 count-items-requires-2 c κs = vals-counting _ _ _ _ _ _ _ (c .before .before .before .before .pre)
 
--- src/pair.rt:245:9
 count-items-requires-3 : tie.Need-count-items-requires-3
 count-items-requires-3 c κs = times-counting _ _ _ _ _ _ _ (c .before .before .before .before .before .pre)
 
--- src/pair.rt:246:5
 layout-requires : tie.Need-layout-requires
 layout-requires c κs = search needs
 
--- src/pair.rt:231:1
 returns : tie.Need-returns
 returns c = places-are _ _ _ _ _ _ _ (c .before .before .before .before .before .before .before .pre) _ _ _ _ (c .before .before .before .count-items .ensures) (c .before .before .count-items2 .ensures) (c .before .count-items3 .ensures) (c .layout .ensures)
 

@@ -6,35 +6,27 @@ use borrow.Author.Needs.{needs}
 use Rattle.merge.proofs.weft.write_from_surveys.Statement.{statement}
 use Rattle.merge.proofs.weft.write_from_surveys.Tie as tie
 
--- src/weft.rt:309:9
 places-requires : tie.Need-places-requires
 places-requires c κs = search needs
 
--- src/weft.rt:310:5
 write-upper-requires : tie.Need-write-upper-requires
 write-upper-requires c κs = search needs
 
--- src/weft.rt:311:5
 write-middle-requires : tie.Need-write-middle-requires
 write-middle-requires c κs = (in-room _ _ (c .before .before .out .given) (c .before .before .before .before .before .before .before .before .before .before .pre), c .before .before .before .before .before .places .ensures)
 
--- src/weft.rt:312:9
 write-lower-requires : tie.Need-write-lower-requires
 write-lower-requires c κs = (in-room _ _ (c .before .before .out2 .given ∙ c .before .before .before .before .before .before .out .given) (c .before .before .before .before .before .before .before .before .before .before .before .before .before .before .pre), c .before .before .before .before .before .before .before .before .before .places .ensures)
 
--- src/weft.rt:313:50
 sub-write-table : tie.Need-sub-write-table
 sub-write-table c = search needs
 
--- src/weft.rt:313:5
 write-table-requires : tie.Need-write-table-requires
 write-table-requires c κs = search needs
 
--- src/weft.rt:297:1
 same-length : tie.Need-same-length
 same-length c = search needs
 
--- src/weft.rt:297:1
 returns : tie.Need-returns
 returns c = whole-laid _ _ _ _ _ _ _ (c .before .before .before .before .before .before .before .before .before .before .before .before .before .before .before .before .before .before .before .before .before .before .pre) _ (c .before .before .before .before .before .before .before .before .before .before .before .before .before .before .before .before .before .places .ensures) _ _ _ _ _ _ refl (c .before .before .before .before .before .before .before .before .before .before .before .before .before .before .before .write-upper .ensures) (c .before .before .before .before .before .before .before .before .before .before .before .write-middle .ensures) (c .before .before .before .before .before .before .before .write-lower .ensures .1) (omega (arith, c .before .before .before .before .before .before .before .write-lower .ensures .0)) (c .before .before .write-table .ensures)
 

@@ -4,19 +4,15 @@ use Rattle.merge.proofs.Wefting.{diff-ends-room, diffs-room, diffs-with
 use Rattle.merge.proofs.weft.write_lower.Statement.{statement}
 use Rattle.merge.proofs.weft.write_lower.Tie as tie
 
--- src/weft.rt:249:5
 write-change-ends-requires : tie.Need-write-change-ends-requires
 write-change-ends-requires c κs = let w = diffs-within _ _ _ _ _ _ _ (c .before .before .before .before .before .pre .0) _ (c .before .before .before .before .before .pre .1) in (diff-ends-room _ _ _ _ _ _ _ (c .before .before .before .before .before .pre .0) _ (c .before .before .before .before .before .pre .1) _ refl, w)
 
--- src/weft.rt:264:5
 write-changes-requires : tie.Need-write-changes-requires
 write-changes-requires c κs = let w = diffs-within _ _ _ _ _ _ _ (c .before .before .before .before .before .before .before .before .before .pre .0) _ (c .before .before .before .before .before .before .before .before .before .pre .1) in (diffs-room _ _ _ _ _ _ _ (c .before .before .before .before .before .before .before .before .before .pre .0) _ (c .before .before .before .before .before .before .before .before .before .pre .1) _ (c .before .before .out .given), (w .0 .1, w .1 .1))
 
--- src/weft.rt:234:1
 same-length : tie.Need-same-length
 same-length c = search needs
 
--- src/weft.rt:234:1
 returns : tie.Need-returns
 returns c = lower-laid _ _ _ _ _ _ _ (c .before .before .before .before .before .before .before .before .before .before .before .before .pre .0) _ (c .before .before .before .before .before .before .before .before .before .before .before .before .pre .1) (λ i. c .before .before .before .before .before .before .before .before .before .before .before .shared-slice-known .given i .fits) (λ i. c .before .before .before .before .before .before .before .before .before .before .shared-slice-known2 .given i .fits) _ _ _ _ refl (c .before .before .before .before .before .before .write-change-ends .ensures) (c .before .before .write-changes .ensures .0) (c .before .before .write-changes .ensures .1)
 

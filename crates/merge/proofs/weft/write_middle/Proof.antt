@@ -5,15 +5,12 @@ use borrow.Author.Needs.{needs}
 use Rattle.merge.proofs.weft.write_middle.Statement.{statement}
 use Rattle.merge.proofs.weft.write_middle.Tie as tie
 
--- src/weft.rt:230:5
 write-lists-requires : tie.Need-write-lists-requires
 write-lists-requires c κs = let r = times-room _ _ _ _ _ _ _ (c .before .before .before .before .before .pre .0) _ (c .before .before .before .before .before .pre .1) _ refl in (r .ends, (r .runs, (r .in0, r .in1)))
 
--- src/weft.rt:216:1
 same-length : tie.Need-same-length
 same-length c = search needs
 
--- src/weft.rt:216:1
 returns : tie.Need-returns
 returns c = middle-laid _ _ _ _ _ _ _ (c .before .before .before .before .before .before .before .before .pre .0) _ (c .before .before .before .before .before .before .before .before .pre .1) _ _ refl (c .before .before .write-lists .ensures)
 

@@ -9,79 +9,60 @@ use borrow.Author.Needs.{needs}
 use Rattle.merge.proofs.write.count_diff.Statement.{statement}
 use Rattle.merge.proofs.write.count_diff.Tie as tie
 
--- src/write.rt:282:16
 mul-kind : tie.Need-mul-kind
 mul-kind c = search needs
 
--- src/write.rt:282:16
 shared-slice-read-kind : tie.Need-shared-slice-read-kind
 shared-slice-read-kind c = search needs
 
--- src/write.rt:283:23
 add-low : tie.Need-add-low
 add-low c = search needs
 
--- src/write.rt:283:15
 mul-low : tie.Need-mul-low
 mul-low c = search needs
 
--- src/write.rt:283:15
 shared-slice-read-low : tie.Need-shared-slice-read-low
 shared-slice-read-low c = search needs
 
--- src/write.rt:284:24
 add-high : tie.Need-add-high
 add-high c = search needs
 
--- src/write.rt:284:16
 mul-high : tie.Need-mul-high
 mul-high c = search needs
 
--- src/write.rt:284:16
 shared-slice-read-high : tie.Need-shared-slice-read-high
 shared-slice-read-high c = search needs
 
--- src/write.rt:286:24
 sub-result : tie.Need-sub-result
 sub-result c = let t = c .before .before .before .before .before .before .before in let v = t .args in run-ordered _ _ (getD (v .scratch .now) (v .p) 0) (getD (v .scratch .now) (v .p + 1) 0) (getD (v .scratch .now) (v .p + 2) 0) (omega (arith, c .if1 .taken)) (t .pre .serves) .0
 
--- src/write.rt:286:16
 add-result : tie.Need-add-result
 add-result c = let t = c .before .before .before .before .before .before .before in let v = t .args in let z = run-ordered _ _ (getD (v .scratch .now) (v .p) 0) (getD (v .scratch .now) (v .p + 1) 0) (getD (v .scratch .now) (v .p + 2) 0) (omega (arith, c .if1 .taken)) (t .pre .serves) in omega (arith, t .pre .fits)
 
--- src/write.rt:286:9
 returns : tie.Need-returns
 returns c = let t = c .before .before .before .before .before .before .before in let v = t .args in run-counted (v .first .now) (v .second .now) (getD (v .scratch .now) (v .p) 0) (getD (v .scratch .now) (v .p + 1) 0) (getD (v .scratch .now) (v .p + 2) 0) (v .base) (omega (arith, c .if1 .taken)) (t .pre .serves)
 
--- src/write.rt:288:35
 mul-wrapping-add-u64 : tie.Need-mul-wrapping-add-u64
 mul-wrapping-add-u64 c = let t = c .before .before .before .before .before .before .before in let v = t .args in let z = shared-serves (length (v .first .now)) (length (v .second .now)) (getD (v .scratch .now) (v .p) 0) (getD (v .scratch .now) (v .p + 1) 0) (getD (v .scratch .now) (v .p + 2) 0) (omega (arith, c .if1 .left)) (t .pre .serves) in omega arith
 
--- src/write.rt:288:35
 shared-slice-read-wrapping-add-u64 : tie.Need-shared-slice-read-wrapping-add-u64
 shared-slice-read-wrapping-add-u64 c = let t = c .before .before .before .before .before .before .before .before in let v = t .args in let z = shared-serves (length (v .first .now)) (length (v .second .now)) (getD (v .scratch .now) (v .p) 0) (getD (v .scratch .now) (v .p + 1) 0) (getD (v .scratch .now) (v .p + 2) 0) (omega (arith, c .before .if1 .left)) (t .pre .serves) in omega arith
 
--- src/write.rt:288:47
 mul-wrapping-add-u64-2 : tie.Need-mul-wrapping-add-u64-2
 mul-wrapping-add-u64-2 c = let t = c .before .before .before .before .before .before .before .before in let v = t .args in let z = shared-serves (length (v .first .now)) (length (v .second .now)) (getD (v .scratch .now) (v .p) 0) (getD (v .scratch .now) (v .p + 1) 0) (getD (v .scratch .now) (v .p + 2) 0) (omega (arith, c .before .if1 .left)) (t .pre .serves) in omega arith
 
--- src/write.rt:288:47
 shared-slice-read-wrapping-add-u64-2 : tie.Need-shared-slice-read-wrapping-add-u64-2
 shared-slice-read-wrapping-add-u64-2 c = let t = c .before .before .before .before .before .before .before .before .before in let v = t .args in let z = shared-serves (length (v .first .now)) (length (v .second .now)) (getD (v .scratch .now) (v .p) 0) (getD (v .scratch .now) (v .p + 1) 0) (getD (v .scratch .now) (v .p + 2) 0) (omega (arith, c .before .before .if1 .left)) (t .pre .serves) in omega arith
 
--- src/write.rt:288:8
 wrapping-add-u64-requires : tie.Need-wrapping-add-u64-requires
 wrapping-add-u64-requires c κs = search needs
 
--- src/write.rt:289:9
 returns-2 : tie.Need-returns-2
 returns-2 c = let t = c .before .before .before .before .before .before .before .before .before .before .before in let v = t .args in none-written (v .first .now) (v .second .now) (getD (v .scratch .now) (v .p) 0) (getD (v .scratch .now) (v .p + 1) 0) (getD (v .scratch .now) (v .p + 2) 0) (v .base) [] (omega (arith, c .before .before .before .before .if1 .left)) (c .before .wrapping-add-u64 .ensures) (c .if2 .taken) .0
 
--- src/write.rt:291:5
 add-result-2 : tie.Need-add-result-2
 add-result-2 c = search needs
 
--- src/write.rt:278:1
 returns-3 : tie.Need-returns-3
 returns-3 c = let t = c .before .before .before .before .before .before .before .before .before .before .before in let v = t .args in one-counted (v .first .now) (v .second .now) (getD (v .scratch .now) (v .p) 0) (getD (v .scratch .now) (v .p + 1) 0) (getD (v .scratch .now) (v .p + 2) 0) (v .base) _ (omega (arith, c .before .before .before .before .if1 .left)) (c .before .wrapping-add-u64 .ensures) (c .if2 .left)
 

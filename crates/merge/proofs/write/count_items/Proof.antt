@@ -14,35 +14,27 @@ Inv-loop scratch from count base total₀ left₀ p₀ total left p = Tallying s
 abbrev μ-loop : tie.MeasureT-loop
 μ-loop scratch from count base total₀ left₀ p₀ total left p = left
 
--- src/write.rt:99:5
 loop-holds : tie.Need-loop-holds Inv-loop μ-loop
 loop-holds c = record { counting = c .before .pre; whole = refl }
 
--- src/write.rt:100:18
 width-of-requires : tie.Need-width-of-requires Inv-loop μ-loop
 width-of-requires c κs = let l = c .before .loop in next-rising (c .before .before .before .args .scratch .now) _ (l .p) (l .left) (l .total) (c .loop-test .taken) (l .inv)
 
--- src/write.rt:100:9
 add-total : tie.Need-add-total Inv-loop μ-loop
 add-total c = let l = c .before .before .loop in let m = next-small (c .before .before .before .before .args .scratch .now) _ (l .p) (l .left) (l .total) (c .before .loop-test .taken) (l .inv) in omega (arith, c .width-of .ensures)
 
--- src/write.rt:101:9
 add-p : tie.Need-add-p Inv-loop μ-loop
 add-p c = omega (arith, c .before .before .loop .inv .counting .stands, c .before .loop-test .taken)
 
--- src/write.rt:102:9
 sub-left : tie.Need-sub-left Inv-loop μ-loop
 sub-left c = omega (arith, c .before .loop-test .taken)
 
--- src/write.rt:99:5
 loop-less : tie.Need-loop-less Inv-loop μ-loop
 loop-less c = omega (arith, c .before .loop-test .taken)
 
--- src/write.rt:99:5
 loop-again : tie.Need-loop-again Inv-loop μ-loop
 loop-again c = let l = c .before .before .loop in next-tally (c .before .before .before .before .args .scratch .now) _ (l .p) (l .left) (l .total) (c .before .loop-test .taken) (l .inv) (c .width-of .ensures)
 
--- src/write.rt:92:1
 returns : tie.Need-returns Inv-loop μ-loop
 returns c = let l = c .before .loop in no-more-tally (c .before .before .before .args .scratch .now) _ (l .p) (l .left) (l .total) (omega (arith, c .loop-test .left)) (l .inv)
 

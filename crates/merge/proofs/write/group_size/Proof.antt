@@ -7,63 +7,48 @@ use Rattle.reports.proofs.WriteEnds.{one-under, some-under, shared-serves}
 use Rattle.merge.proofs.write.group_size.Statement.{statement}
 use Rattle.merge.proofs.write.group_size.Tie as tie
 
--- src/write.rt:146:16
 mul-kind : tie.Need-mul-kind
 mul-kind c = search needs
 
--- src/write.rt:146:16
 shared-slice-read-kind : tie.Need-shared-slice-read-kind
 shared-slice-read-kind c = search needs
 
--- src/write.rt:148:9
 returns : tie.Need-returns
 returns c = let v = c .before .before .before .before .before .args in one-under (v .ends0 .now) (v .ends1 .now) (getD (v .scratch .now) (v .p) 0) (getD (v .scratch .now) (v .p + 1) 0) (getD (v .scratch .now) (v .p + 2) 0) _ (omega (arith, c .if1 .taken))
 
--- src/write.rt:150:25
 add-list0 : tie.Need-add-list0
 add-list0 c = search needs
 
--- src/write.rt:150:17
 mul-list0 : tie.Need-mul-list0
 mul-list0 c = search needs
 
--- src/write.rt:150:17
 shared-slice-read-list0 : tie.Need-shared-slice-read-list0
 shared-slice-read-list0 c = search needs
 
--- src/write.rt:151:25
 add-list1 : tie.Need-add-list1
 add-list1 c = search needs
 
--- src/write.rt:151:17
 mul-list1 : tie.Need-mul-list1
 mul-list1 c = search needs
 
--- src/write.rt:151:17
 shared-slice-read-list1 : tie.Need-shared-slice-read-list1
 shared-slice-read-list1 c = search needs
 
--- src/write.rt:152:31
 mul-inside : tie.Need-mul-inside
 mul-inside c = let t = c .before .before .before .before .before .before .before in let v = t .args in let z = shared-serves (length (v .ends0 .now)) (length (v .ends1 .now)) (getD (v .scratch .now) (v .p) 0) (getD (v .scratch .now) (v .p + 1) 0) (getD (v .scratch .now) (v .p + 2) 0) (omega (arith, c .before .before .if1 .left)) (t .pre .1 .1) in omega arith
 
--- src/write.rt:152:31
 shared-slice-read-inside : tie.Need-shared-slice-read-inside
 shared-slice-read-inside c = let t = c .before .before .before .before .before .before .before .before in let v = t .args in let z = shared-serves (length (v .ends0 .now)) (length (v .ends1 .now)) (getD (v .scratch .now) (v .p) 0) (getD (v .scratch .now) (v .p + 1) 0) (getD (v .scratch .now) (v .p + 2) 0) (omega (arith, c .before .before .before .if1 .left)) (t .pre .1 .1) in omega arith
 
--- src/write.rt:152:54
 mul-inside-2 : tie.Need-mul-inside-2
 mul-inside-2 c = let t = c .before .before .before .before .before .before .before .before in let v = t .args in let z = shared-serves (length (v .ends0 .now)) (length (v .ends1 .now)) (getD (v .scratch .now) (v .p) 0) (getD (v .scratch .now) (v .p + 1) 0) (getD (v .scratch .now) (v .p + 2) 0) (omega (arith, c .before .before .before .if1 .left)) (t .pre .1 .1) in omega arith
 
--- src/write.rt:152:54
 shared-slice-read-inside-2 : tie.Need-shared-slice-read-inside-2
 shared-slice-read-inside-2 c = let t = c .before .before .before .before .before .before .before .before .before in let v = t .args in let z = shared-serves (length (v .ends0 .now)) (length (v .ends1 .now)) (getD (v .scratch .now) (v .p) 0) (getD (v .scratch .now) (v .p + 1) 0) (getD (v .scratch .now) (v .p + 2) 0) (omega (arith, c .before .before .before .before .if1 .left)) (t .pre .1 .1) in omega arith
 
--- src/write.rt:152:5
 inside-requires : tie.Need-inside-requires
 inside-requires c κs = c .before .before .before .before .before .before .before .before .before .pre .1 .0
 
--- src/write.rt:140:1
 returns-2 : tie.Need-returns-2
 returns-2 c = let v = c .before .before .before .before .before .before .before .before .before .before .args in some-under (v .ends0 .now) (v .ends1 .now) (getD (v .scratch .now) (v .p) 0) (getD (v .scratch .now) (v .p + 1) 0) (getD (v .scratch .now) (v .p + 2) 0) _ (omega (arith, c .before .before .before .before .before .if1 .left)) (c .inside .ensures)
 

@@ -10,45 +10,35 @@ use borrow.Author.Needs.{needs}
 use Rattle.merge.proofs.write.in_row.Statement.{statement}
 use Rattle.merge.proofs.write.in_row.Tie as tie
 
--- src/write.rt:44:8
 sub-if1 : tie.Need-sub-if1
 sub-if1 c = search needs
 
--- src/write.rt:45:9
 returns : tie.Need-returns
 returns c = λ q. absurd (true-not-false (sym q))
 
--- src/write.rt:47:16
 sub-last : tie.Need-sub-last
 sub-last c = search needs
 
--- src/write.rt:48:5
 mul-result : tie.Need-mul-result
 mul-result c = search needs
 
--- src/write.rt:48:5
 shared-slice-read-result : tie.Need-shared-slice-read-result
 shared-slice-read-result c = search needs
 
--- src/write.rt:48:18
 mul-result-2 : tie.Need-mul-result-2
 mul-result-2 c = search needs
 
--- src/write.rt:48:18
 shared-slice-read-result-2 : tie.Need-shared-slice-read-result-2
 shared-slice-read-result-2 c = search needs
 
--- src/write.rt:48:5
 sub-result : tie.Need-sub-result
 sub-result c =
     let t = c .before .before .before in
     let v = t .args in omega (arith, goes-up (v .ends .now) (v .from) (v .to - 1) (t .pre .1) (omega arith) (omega arith))
 
--- src/write.rt:48:33
 sub-result-2 : tie.Need-sub-result-2
 sub-result-2 c = search needs
 
--- src/write.rt:39:1
 returns-2 : tie.Need-returns-2
 returns-2 c =
     let t = c .before .before .before in

@@ -14,39 +14,30 @@ Inv-loop scratch from count end0 end1 size₀ left₀ p₀ size left p = Finding
 abbrev μ-loop : tie.MeasureT-loop
 μ-loop scratch from count end0 end1 size₀ left₀ p₀ size left p = left
 
--- src/write.rt:128:5
 loop-holds : tie.Need-loop-holds Inv-loop μ-loop
 loop-holds c = record { stands = c .before .pre; passed = omega arith; whole = omega arith }
 
--- src/write.rt:129:13
 starts-in-requires : tie.Need-starts-in-requires Inv-loop μ-loop
 starts-in-requires c κs = omega (arith, c .before .loop .inv .stands, c .loop-test .taken)
 
--- src/write.rt:130:13
 returns : tie.Need-returns Inv-loop μ-loop
 returns c = let l = c .before .before .before .loop in found-last (c .before .before .before .before .before .args .scratch .now) (c .before .before .before .before .before .args .end0) (c .before .before .before .before .before .args .end1) _ _ (l .p) (l .left) (l .size) (c .before .before .loop-test .taken) (l .inv) (c .before .starts-in .ensures) (not-true _ (c .if1 .taken))
 
--- src/write.rt:132:9
 add-size : tie.Need-add-size Inv-loop μ-loop
 add-size c = omega (arith, c .before .before .before .loop .inv .passed, c .before .before .loop-test .taken)
 
--- src/write.rt:133:9
 add-p : tie.Need-add-p Inv-loop μ-loop
 add-p c = omega (arith, c .before .before .before .loop .inv .stands, c .before .before .loop-test .taken)
 
--- src/write.rt:134:9
 sub-left : tie.Need-sub-left Inv-loop μ-loop
 sub-left c = omega (arith, c .before .before .loop-test .taken)
 
--- src/write.rt:128:5
 loop-less : tie.Need-loop-less Inv-loop μ-loop
 loop-less c = omega (arith, c .before .before .loop-test .taken)
 
--- src/write.rt:128:5
 loop-again : tie.Need-loop-again Inv-loop μ-loop
 loop-again c = let l = c .before .before .before .loop in found-more (c .before .before .before .before .before .args .scratch .now) (c .before .before .before .before .before .args .end0) (c .before .before .before .before .before .args .end1) _ _ (l .p) (l .left) (l .size) (c .before .before .loop-test .taken) (l .inv) (c .before .starts-in .ensures) (not-false _ (c .if1 .left))
 
--- src/write.rt:121:1
 returns-2 : tie.Need-returns-2 Inv-loop μ-loop
 returns-2 c = let l = c .before .loop in found-all (c .before .before .before .args .scratch .now) (c .before .before .before .args .end0) (c .before .before .before .args .end1) _ _ (l .p) (l .left) (l .size) (omega (arith, c .loop-test .left)) (l .inv)
 

@@ -7,56 +7,43 @@ use borrow.Author.Needs.{needs}
 use Rattle.merge.proofs.write.put_ends.Statement.{statement}
 use Rattle.merge.proofs.write.put_ends.Tie as tie
 
--- src/write.rt:57:21
 sub-end : tie.Need-sub-end
 sub-end c = search needs
 
--- src/write.rt:57:15
 add-end : tie.Need-add-end
 add-end c = search needs
 
--- src/write.rt:58:8
 in-row-requires : tie.Need-in-row-requires
 in-row-requires c κs = search needs
 
--- src/write.rt:59:48
 mul-wrapping-add-u64 : tie.Need-mul-wrapping-add-u64
 mul-wrapping-add-u64 c = search needs
 
--- src/write.rt:59:48
 shared-slice-read-wrapping-add-u64 : tie.Need-shared-slice-read-wrapping-add-u64
 shared-slice-read-wrapping-add-u64 c =
     let row = c .before .before .in-row .ensures (c .before .if1 .taken) in omega (arith, row .some, c .before .before .before .before .before .pre .0 .within)
 
--- src/write.rt:59:13
 wrapping-add-u64-requires : tie.Need-wrapping-add-u64-requires
 wrapping-add-u64-requires c κs = search needs
 
--- src/write.rt:60:18
 mul-count-on : tie.Need-mul-count-on
 mul-count-on c = search needs
 
--- src/write.rt:60:18
 sub-count-on : tie.Need-sub-count-on
 sub-count-on c = search needs
 
--- src/write.rt:60:18
 part-count-on-start : tie.Need-part-count-on-start
 part-count-on-start c = search needs
 
--- src/write.rt:60:18
 part-count-on-end : tie.Need-part-count-on-end
 part-count-on-end c = search needs
 
--- src/write.rt:60:9
 count-on-requires : tie.Need-count-on-requires
 count-on-requires c κs = search needs
 
--- src/write.rt:61:9
 same-length : tie.Need-same-length
 same-length c = search needs
 
--- src/write.rt:61:9
 returns : tie.Need-returns
 returns c =
     let t = c .before .before .before .before .before .before .before .before .before .before in
@@ -65,47 +52,36 @@ returns c =
     (c .before .before .before .before .before .before .before .in-row .ensures (c .before .before .before .before .before .before .if1 .taken))
     (c .before .before .before .before .wrapping-add-u64 .ensures) (c .before .before .count-on .ensures)
 
--- src/write.rt:63:24
 mul-copy-shifted : tie.Need-mul-copy-shifted
 mul-copy-shifted c = search needs
 
--- src/write.rt:63:24
 sub-copy-shifted : tie.Need-sub-copy-shifted
 sub-copy-shifted c = search needs
 
--- src/write.rt:63:24
 part-copy-shifted-start : tie.Need-part-copy-shifted-start
 part-copy-shifted-start c = search needs
 
--- src/write.rt:63:24
 part-copy-shifted-end : tie.Need-part-copy-shifted-end
 part-copy-shifted-end c = search needs
 
--- src/write.rt:63:43
 mul-copy-shifted-2 : tie.Need-mul-copy-shifted-2
 mul-copy-shifted-2 c = search needs
 
--- src/write.rt:63:43
 sub-copy-shifted-2 : tie.Need-sub-copy-shifted-2
 sub-copy-shifted-2 c = search needs
 
--- src/write.rt:63:43
 part-copy-shifted-start-2 : tie.Need-part-copy-shifted-start-2
 part-copy-shifted-start-2 c = search needs
 
--- src/write.rt:63:43
 part-copy-shifted-end-2 : tie.Need-part-copy-shifted-end-2
 part-copy-shifted-end-2 c = search needs
 
--- src/write.rt:63:5
 copy-shifted-requires : tie.Need-copy-shifted-requires
 copy-shifted-requires c κs = search needs
 
--- src/write.rt:52:1
 same-length-2 : tie.Need-same-length-2
 same-length-2 c = search needs
 
--- src/write.rt:52:1
 returns-2 : tie.Need-returns-2
 returns-2 c =
     let t = c .before .before .before .before .before .before .before .before .before in

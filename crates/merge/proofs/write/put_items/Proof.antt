@@ -5,55 +5,42 @@ use borrow.Author.Needs.{needs}
 use Rattle.merge.proofs.write.put_items.Statement.{statement}
 use Rattle.merge.proofs.write.put_items.Tie as tie
 
--- src/write.rt:18:21
 sub-end : tie.Need-sub-end
 sub-end c = search needs
 
--- src/write.rt:18:15
 add-end : tie.Need-add-end
 add-end c = search needs
 
--- src/write.rt:19:21
 mul-copy-into : tie.Need-mul-copy-into
 mul-copy-into c = search needs
 
--- src/write.rt:19:21
 sub-copy-into : tie.Need-sub-copy-into
 sub-copy-into c = search needs
 
--- src/write.rt:19:21
 part-copy-into-start : tie.Need-part-copy-into-start
 part-copy-into-start c = search needs
 
--- src/write.rt:19:21
 part-copy-into-end : tie.Need-part-copy-into-end
 part-copy-into-end c = search needs
 
--- src/write.rt:19:40
 mul-copy-into-2 : tie.Need-mul-copy-into-2
 mul-copy-into-2 c = search needs
 
--- src/write.rt:19:40
 sub-copy-into-2 : tie.Need-sub-copy-into-2
 sub-copy-into-2 c = search needs
 
--- src/write.rt:19:40
 part-copy-into-start-2 : tie.Need-part-copy-into-start-2
 part-copy-into-start-2 c = search needs
 
--- src/write.rt:19:40
 part-copy-into-end-2 : tie.Need-part-copy-into-end-2
 part-copy-into-end-2 c = search needs
 
--- src/write.rt:19:5
 copy-into-requires : tie.Need-copy-into-requires
 copy-into-requires c κs = search needs
 
--- src/write.rt:14:1
 same-length : tie.Need-same-length
 same-length c = search needs
 
--- src/write.rt:14:1
 returns : tie.Need-returns
 returns c =
     let v = c .before .before .before .before .before .before .before .args in

@@ -5,35 +5,27 @@ use borrow.Author.Needs.{needs}
 use Rattle.merge.proofs.write.put_lists.Statement.{statement}
 use Rattle.merge.proofs.write.put_lists.Tie as tie
 
--- src/write.rt:161:16
 sub-last : tie.Need-sub-last
 sub-last c = search needs
 
--- src/write.rt:162:5
 put-ends-requires : tie.Need-put-ends-requires
 put-ends-requires c κs = let t = c .before .before .before in (record { ordered = t .pre .0 .ordered; within = t .pre .0 .within; fits = omega (arith, t .pre .0 .fits) }, t .pre .1 .1)
 
--- src/write.rt:163:15
 sub-out : tie.Need-sub-out
 sub-out c = search needs
 
--- src/write.rt:163:9
 add-out : tie.Need-add-out
 add-out c = search needs
 
--- src/write.rt:163:5
 mul-out : tie.Need-mul-out
 mul-out c = search needs
 
--- src/write.rt:163:5
 slice-write-out : tie.Need-slice-write-out
 slice-write-out c = search needs
 
--- src/write.rt:156:1
 same-length : tie.Need-same-length
 same-length c = search needs
 
--- src/write.rt:156:1
 returns : tie.Need-returns
 returns c =
     let t = c .before .before .before .before .before .before in

@@ -6,31 +6,24 @@ use borrow.Author.Needs.{needs}
 use Rattle.merge.proofs.write.starts_in.Statement.{statement}
 use Rattle.merge.proofs.write.starts_in.Tie as tie
 
--- src/write.rt:112:16
 mul-kind : tie.Need-mul-kind
 mul-kind c = search needs
 
--- src/write.rt:112:16
 shared-slice-read-kind : tie.Need-shared-slice-read-kind
 shared-slice-read-kind c = search needs
 
--- src/write.rt:113:23
 add-low : tie.Need-add-low
 add-low c = search needs
 
--- src/write.rt:113:15
 mul-low : tie.Need-mul-low
 mul-low c = search needs
 
--- src/write.rt:113:15
 shared-slice-read-low : tie.Need-shared-slice-read-low
 shared-slice-read-low c = search needs
 
--- src/write.rt:115:9
 returns : tie.Need-returns
 returns c = let v = c .before .before .before .args in starts-that _ (getD (v .scratch .now) (v .p + 2) 0) (v .end0) (v .end1) (c .if1 .taken)
 
--- src/write.rt:108:1
 returns-2 : tie.Need-returns-2
 returns-2 c = let v = c .before .before .before .args in starts-other (getD (v .scratch .now) (v .p) 0) _ (getD (v .scratch .now) (v .p + 2) 0) (v .end0) (v .end1) (c .if1 .left)
 

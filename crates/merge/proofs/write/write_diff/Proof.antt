@@ -8,91 +8,69 @@ use borrow.Author.Needs.{needs}
 use Rattle.merge.proofs.write.write_diff.Statement.{statement}
 use Rattle.merge.proofs.write.write_diff.Tie as tie
 
--- src/write.rt:238:16
 mul-kind : tie.Need-mul-kind
 mul-kind c = search needs
 
--- src/write.rt:238:16
 shared-slice-read-kind : tie.Need-shared-slice-read-kind
 shared-slice-read-kind c = search needs
 
--- src/write.rt:240:9
 write-run-requires : tie.Need-write-run-requires
 write-run-requires c κs = search needs
 
--- src/write.rt:240:9
 same-length : tie.Need-same-length
 same-length c = search needs
 
--- src/write.rt:240:9
 returns : tie.Need-returns
 returns c = let t = c .before .before .before .before .before .before .before .before .before .before in let v = t .args in run-written (v .first .now) (v .second .now) (getD (v .scratch .now) (v .p) 0) (getD (v .scratch .now) (v .p + 1) 0) (getD (v .scratch .now) (v .p + 2) 0) (v .at) (v .out .now) _ _ (omega (arith, c .before .before .before .before .if1 .taken)) (t .pre .serves) (c .before .before .write-run .ensures .0) (c .before .before .write-run .ensures .1)
 
--- src/write.rt:242:23
 add-low : tie.Need-add-low
 add-low c = search needs
 
--- src/write.rt:242:15
 mul-low : tie.Need-mul-low
 mul-low c = search needs
 
--- src/write.rt:242:15
 shared-slice-read-low : tie.Need-shared-slice-read-low
 shared-slice-read-low c = search needs
 
--- src/write.rt:243:24
 add-high : tie.Need-add-high
 add-high c = search needs
 
--- src/write.rt:243:16
 mul-high : tie.Need-mul-high
 mul-high c = search needs
 
--- src/write.rt:243:16
 shared-slice-read-high : tie.Need-shared-slice-read-high
 shared-slice-read-high c = search needs
 
--- src/write.rt:244:42
 mul-wrapping-add-u64 : tie.Need-mul-wrapping-add-u64
 mul-wrapping-add-u64 c = let t = c .before .before .before .before .before .before .before .before in let v = t .args in let z = shared-serves (length (v .first .now)) (length (v .second .now)) (getD (v .scratch .now) (v .p) 0) (getD (v .scratch .now) (v .p + 1) 0) (getD (v .scratch .now) (v .p + 2) 0) (omega (arith, c .before .before .if1 .left)) (t .pre .serves) in omega arith
 
--- src/write.rt:244:42
 shared-slice-read-wrapping-add-u64 : tie.Need-shared-slice-read-wrapping-add-u64
 shared-slice-read-wrapping-add-u64 c = let t = c .before .before .before .before .before .before .before .before .before in let v = t .args in let z = shared-serves (length (v .first .now)) (length (v .second .now)) (getD (v .scratch .now) (v .p) 0) (getD (v .scratch .now) (v .p + 1) 0) (getD (v .scratch .now) (v .p + 2) 0) (omega (arith, c .before .before .before .if1 .left)) (t .pre .serves) in omega arith
 
--- src/write.rt:244:54
 mul-wrapping-add-u64-2 : tie.Need-mul-wrapping-add-u64-2
 mul-wrapping-add-u64-2 c = let t = c .before .before .before .before .before .before .before .before .before in let v = t .args in let z = shared-serves (length (v .first .now)) (length (v .second .now)) (getD (v .scratch .now) (v .p) 0) (getD (v .scratch .now) (v .p + 1) 0) (getD (v .scratch .now) (v .p + 2) 0) (omega (arith, c .before .before .before .if1 .left)) (t .pre .serves) in omega arith
 
--- src/write.rt:244:54
 shared-slice-read-wrapping-add-u64-2 : tie.Need-shared-slice-read-wrapping-add-u64-2
 shared-slice-read-wrapping-add-u64-2 c = let t = c .before .before .before .before .before .before .before .before .before .before in let v = t .args in let z = shared-serves (length (v .first .now)) (length (v .second .now)) (getD (v .scratch .now) (v .p) 0) (getD (v .scratch .now) (v .p + 1) 0) (getD (v .scratch .now) (v .p + 2) 0) (omega (arith, c .before .before .before .before .if1 .left)) (t .pre .serves) in omega arith
 
--- src/write.rt:244:9
 wrapping-add-u64-requires : tie.Need-wrapping-add-u64-requires
 wrapping-add-u64-requires c κs = search needs
 
--- src/write.rt:246:9
 returns-2 : tie.Need-returns-2
 returns-2 c = let t = c .before .before .before .before .before .before .before .before .before .before .before .before in let v = t .args in none-written (v .first .now) (v .second .now) (getD (v .scratch .now) (v .p) 0) (getD (v .scratch .now) (v .p + 1) 0) (getD (v .scratch .now) (v .p + 2) 0) (v .at) (v .out .now) (omega (arith, c .before .before .before .before .before .before .if1 .left)) (c .before .wrapping-add-u64 .ensures) (c .if2 .taken)
 
--- src/write.rt:248:5
 mul-out : tie.Need-mul-out
 mul-out c = search needs
 
--- src/write.rt:248:5
 slice-write-out : tie.Need-slice-write-out
 slice-write-out c = let t = c .before .before .before .before .before .before .before .before .before .before .before .before in let v = t .args in let z = wide-shared (getD (v .scratch .now) (v .p) 0) (getD (v .scratch .now) (v .p + 1) 0) (getD (v .scratch .now) (v .p + 2) 0) (omega (arith, c .before .before .before .before .before .before .if1 .left)) in omega (arith, t .pre .fits)
 
--- src/write.rt:249:5
 add-result : tie.Need-add-result
 add-result c = search needs
 
--- src/write.rt:233:1
 same-length-2 : tie.Need-same-length-2
 same-length-2 c = search needs
 
--- src/write.rt:233:1
 returns-3 : tie.Need-returns-3
 returns-3 c = let t = c .before .before .before .before .before .before .before .before .before .before .before .before in let v = t .args in let z = wide-shared (getD (v .scratch .now) (v .p) 0) (getD (v .scratch .now) (v .p + 1) 0) (getD (v .scratch .now) (v .p + 2) 0) (omega (arith, c .before .before .before .before .before .before .if1 .left)) in one-written (v .first .now) (v .second .now) (getD (v .scratch .now) (v .p) 0) (getD (v .scratch .now) (v .p + 1) 0) (getD (v .scratch .now) (v .p + 2) 0) (v .at) (v .out .now) _ (omega (arith, c .before .before .before .before .before .before .if1 .left)) (c .before .wrapping-add-u64 .ensures) (c .if2 .left) (omega (arith, t .pre .fits))
 

@@ -13,39 +13,30 @@ Inv-loop ends0 ends1 first second scratch from count out₀ start left₀ p₀ b
 abbrev μ-loop : tie.MeasureT-loop
 μ-loop ends0 ends1 first second scratch from count out₀ start left₀ p₀ base₀ at₀ out left p base at = left
 
--- src/write.rt:313:5
 loop-holds : tie.Need-loop-holds Inv-loop μ-loop
 loop-holds c = record { room = c .before .before .before .before .before .before .pre; same = refl; whole = refl }
 
--- src/write.rt:314:13
 count-diff-requires : tie.Need-count-diff-requires Inv-loop μ-loop
 count-diff-requires c κs = let v = c .before .before .before .before .before .before .before .before .args in let l = c .before .loop in tail-count (v .ends0 .now) (v .ends1 .now) (v .first .now) (v .second .now) (v .scratch .now) _ (v .out .now) (l .out) (l .p) (l .base) (l .at) (l .left) (c .loop-test .taken) (l .inv)
 
--- src/write.rt:315:9
 write-list-requires : tie.Need-write-list-requires Inv-loop μ-loop
 write-list-requires c κs = let v = c .before .before .before .before .before .before .before .before .before .before .args in let l = c .before .before .before .loop in tail-room (v .ends0 .now) (v .ends1 .now) (v .first .now) (v .second .now) (v .scratch .now) _ (v .out .now) (l .out) (l .p) (l .base) (l .at) (c .before .count-diff .result) (c .before .count-diff .ensures) (l .left) (c .before .before .loop-test .taken) (l .inv)
 
--- src/write.rt:317:9
 add-p : tie.Need-add-p Inv-loop μ-loop
 add-p c = let v = c .before .before .before .before .before .before .before .before .before .before .before .before .before .args in let l = c .before .before .before .before .before .before .loop in omega (arith, l .inv .room .runs .stands, (c .before .before .before .before .before .loop-test .taken))
 
--- src/write.rt:318:9
 sub-left : tie.Need-sub-left Inv-loop μ-loop
 sub-left c = omega (arith, (c .before .before .before .before .before .loop-test .taken))
 
--- src/write.rt:313:5
 loop-less : tie.Need-loop-less Inv-loop μ-loop
 loop-less c = omega (arith, (c .before .before .before .before .before .loop-test .taken))
 
--- src/write.rt:313:5
 loop-again : tie.Need-loop-again Inv-loop μ-loop
 loop-again c = let v = c .before .before .before .before .before .before .before .before .before .before .before .before .before .args in let l = c .before .before .before .before .before .before .loop in next-tailing (v .ends0 .now) (v .ends1 .now) (v .first .now) (v .second .now) (v .scratch .now) _ (v .out .now) (l .out) (l .p) (l .base) (l .at) (c .before .before .before .before .count-diff .result) (c .before .before .before .before .count-diff .ensures) (l .left) (c .before .before .before .before .before .loop-test .taken) (l .inv) (c .before .before .write-list .ensures .0) (c .before .before .write-list .ensures .1)
 
--- src/write.rt:295:1
 same-length : tie.Need-same-length Inv-loop μ-loop
 same-length c = c .before .loop .inv .same
 
--- src/write.rt:295:1
 returns : tie.Need-returns Inv-loop μ-loop
 returns c = let v = c .before .before .before .before .before .before .before .before .args in let l = c .before .loop in no-more-tail (v .ends0 .now) (v .ends1 .now) (v .first .now) (v .second .now) (v .scratch .now) _ (v .out .now) (l .out) (l .p) (l .base) (l .at) (l .left) (omega (arith, c .loop-test .left)) (l .inv)
 

@@ -15,35 +15,27 @@ Inv-loop first second scratch from count out₀ at left₀ p₀ end₀ out left 
 abbrev μ-loop : tie.MeasureT-loop
 μ-loop first second scratch from count out₀ at left₀ p₀ end₀ out left p end = left
 
--- src/write.rt:269:5
 loop-holds : tie.Need-loop-holds Inv-loop μ-loop
 loop-holds c = record { room = c .before .before .before .before .pre; same = refl; whole = refl; ends = refl }
 
--- src/write.rt:270:9
 write-diff-requires : tie.Need-write-diff-requires Inv-loop μ-loop
 write-diff-requires c κs = let v = c .before .before .before .before .before .before .before .args in let l = c .before .before .loop in next-diff (v .first .now) (v .second .now) (v .scratch .now) _ (v .out .now) _ (l .out) (l .p) (l .left) (l .end) (c .before .loop-test .taken) (l .inv)
 
--- src/write.rt:271:9
 add-p : tie.Need-add-p Inv-loop μ-loop
 add-p c = let v = c .before .before .before .before .before .before .before .before .before .before .args in let l = c .before .before .before .before .before .loop in omega (arith, l .inv .room .stands, (c .before .before .before .before .loop-test .taken))
 
--- src/write.rt:272:9
 sub-left : tie.Need-sub-left Inv-loop μ-loop
 sub-left c = omega (arith, (c .before .before .before .before .loop-test .taken))
 
--- src/write.rt:269:5
 loop-less : tie.Need-loop-less Inv-loop μ-loop
 loop-less c = omega (arith, (c .before .before .before .before .loop-test .taken))
 
--- src/write.rt:269:5
 loop-again : tie.Need-loop-again Inv-loop μ-loop
 loop-again c = let v = c .before .before .before .before .before .before .before .before .before .before .args in let l = c .before .before .before .before .before .loop in next-laying (v .first .now) (v .second .now) (v .scratch .now) _ (v .out .now) _ (l .out) (l .p) (l .left) (l .end) (c .before .before .before .before .loop-test .taken) (l .inv) (c .before .before .write-diff .ensures .0) (c .before .before .write-diff .ensures .1)
 
--- src/write.rt:253:1
 same-length : tie.Need-same-length Inv-loop μ-loop
 same-length c = c .before .loop .inv .same
 
--- src/write.rt:253:1
 returns : tie.Need-returns Inv-loop μ-loop
 returns c = let v = c .before .before .before .before .before .before .args in let l = c .before .loop in no-more-diffs (v .first .now) (v .second .now) (v .scratch .now) _ (v .out .now) _ (l .out) (l .p) (l .left) (l .end) (omega (arith, c .loop-test .left)) (l .inv)
 

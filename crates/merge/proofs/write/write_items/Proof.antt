@@ -13,33 +13,27 @@ Inv-loop first second scratch from count out₀ at left₀ p₀ end₀ out left 
 abbrev μ-loop : tie.MeasureT-loop
 μ-loop first second scratch from count out₀ at left₀ p₀ end₀ out left p end = left
 
--- src/write.rt:68:5
 loop-holds : tie.Need-loop-holds Inv-loop μ-loop
 loop-holds c = let t = c .before .before .before .before in record { room = t .pre; same = refl; whole = refl }
 
--- src/write.rt:69:9
 write-run-requires : tie.Need-write-run-requires Inv-loop μ-loop
 write-run-requires c κs =
     let t = c .before .before .before .before .before .before .before in
     let l = c .before .before .loop in
     next-room (t .args .first .now) (t .args .second .now) (t .args .scratch .now) _ _ (l .out) (l .p) (l .left) (l .end) (c .before .loop-test .taken) (l .inv)
 
--- src/write.rt:70:9
 add-p : tie.Need-add-p Inv-loop μ-loop
 add-p c =
     let t = c .before .before .before .before .before .before .before .before .before .before in
     let l = c .before .before .before .before .before .loop in
     omega (arith, l .inv .room .stands, c .before .before .before .before .loop-test .taken)
 
--- src/write.rt:71:9
 sub-left : tie.Need-sub-left Inv-loop μ-loop
 sub-left c = omega (arith, c .before .before .before .before .loop-test .taken)
 
--- src/write.rt:68:5
 loop-less : tie.Need-loop-less Inv-loop μ-loop
 loop-less c = omega (arith, c .before .before .before .before .loop-test .taken)
 
--- src/write.rt:68:5
 loop-again : tie.Need-loop-again Inv-loop μ-loop
 loop-again c =
     let t = c .before .before .before .before .before .before .before .before .before .before in
@@ -47,11 +41,9 @@ loop-again c =
     next-writing (t .args .first .now) (t .args .second .now) (t .args .scratch .now) _ _ (l .out) (l .p) (l .left) (l .end) (c .before .before .before .before .loop-test .taken) (l .inv)
     (c .before .before .write-run .ensures .0) (c .before .before .write-run .ensures .1)
 
--- src/write.rt:53:1
 same-length : tie.Need-same-length Inv-loop μ-loop
 same-length c = c .before .loop .inv .same
 
--- src/write.rt:53:1
 returns : tie.Need-returns Inv-loop μ-loop
 returns c =
     let t = c .before .before .before .before .before .before in

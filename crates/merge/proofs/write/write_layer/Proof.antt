@@ -4,19 +4,15 @@ use borrow.Author.Needs.{needs}
 use Rattle.merge.proofs.write.write_layer.Statement.{statement}
 use Rattle.merge.proofs.write.write_layer.Tie as tie
 
--- src/write.rt:377:5
 write-ends-requires : tie.Need-write-ends-requires
 write-ends-requires c κs = search needs
 
--- src/write.rt:378:5
 write-items-requires : tie.Need-write-items-requires
 write-items-requires c κs = rw (c .before .before .before .write-ends .kept .1 .1 .1 .1 .1 .1 .1 .0) (c .before .before .before .before .before .before .before .before .before .before .before .pre .1)
 
--- src/write.rt:359:1
 same-length : tie.Need-same-length
 same-length c = c .before .before .write-items .kept .1 .1 .1 .1 .1 .0 ∙ c .before .before .before .before .before .before .write-ends .kept .1 .1 .1 .1 .1 .1 .1 .0
 
--- src/write.rt:359:1
 returns : tie.Need-returns
 returns c = c .before .before .write-items .ensures ∙ rw (c .before .before .before .before .before .before .write-ends .ensures)
 

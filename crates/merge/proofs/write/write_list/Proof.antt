@@ -7,135 +7,108 @@ use borrow.Author.Needs.{needs}
 use Rattle.merge.proofs.write.write_list.Statement.{statement}
 use Rattle.merge.proofs.write.write_list.Tie as tie
 
--- src/write.rt:182:16
 mul-kind : tie.Need-mul-kind
 mul-kind c = search needs
 
--- src/write.rt:182:16
 shared-slice-read-kind : tie.Need-shared-slice-read-kind
 shared-slice-read-kind c = search needs
 
--- src/write.rt:183:23
 add-low : tie.Need-add-low
 add-low c = search needs
 
--- src/write.rt:183:15
 mul-low : tie.Need-mul-low
 mul-low c = search needs
 
--- src/write.rt:183:15
 shared-slice-read-low : tie.Need-shared-slice-read-low
 shared-slice-read-low c = search needs
 
--- src/write.rt:184:24
 add-high : tie.Need-add-high
 add-high c = search needs
 
--- src/write.rt:184:16
 mul-high : tie.Need-mul-high
 mul-high c = search needs
 
--- src/write.rt:184:16
 shared-slice-read-high : tie.Need-shared-slice-read-high
 shared-slice-read-high c = search needs
 
--- src/write.rt:185:62
 add-wrapping-sub-u64 : tie.Need-add-wrapping-sub-u64
 add-wrapping-sub-u64 c = search needs
 
--- src/write.rt:185:54
 mul-wrapping-sub-u64 : tie.Need-mul-wrapping-sub-u64
 mul-wrapping-sub-u64 c = search needs
 
--- src/write.rt:185:54
 shared-slice-read-wrapping-sub-u64 : tie.Need-shared-slice-read-wrapping-sub-u64
 shared-slice-read-wrapping-sub-u64 c = search needs
 
--- src/write.rt:185:9
 wrapping-sub-u64-requires : tie.Need-wrapping-sub-u64-requires
 wrapping-sub-u64-requires c κs = search needs
 
--- src/write.rt:187:9
 put-lists-requires : tie.Need-put-lists-requires
 put-lists-requires c κs =
     let t = c .before .before .before .before .before .before .before .before .before .before .before in
     let v = t .args in
     this-lists (v .ends0 .now) (v .ends1 .now) (v .scratch .now) (v .p) (v .q) (v .base) (v .next) (v .at) _ (t .pre) (c .before .if1 .taken)
 
--- src/write.rt:188:22
 sub-result : tie.Need-sub-result
 sub-result c =
     let t = c .before .before .before .before .before .before .before .before .before .before .before .before .before .before in
     let v = t .args in
     let m = this-lists (v .ends0 .now) (v .ends1 .now) (v .scratch .now) (v .p) (v .q) (v .base) (v .next) (v .at) _ (t .pre) (c .before .before .before .before .if1 .taken) in omega (arith, m .0 .ordered)
 
--- src/write.rt:188:16
 add-result : tie.Need-add-result
 add-result c =
     let t = c .before .before .before .before .before .before .before .before .before .before .before .before .before .before in
     let v = t .args in
     let m = this-lists (v .ends0 .now) (v .ends1 .now) (v .scratch .now) (v .p) (v .q) (v .base) (v .next) (v .at) _ (t .pre) (c .before .before .before .before .if1 .taken) in omega (arith, m .0 .ordered, m .0 .fits, m .1 .0, t .good .1 .1 .1 .1 .1 .1 .1 .0)
 
--- src/write.rt:188:9
 same-length : tie.Need-same-length
 same-length c = c .before .before .put-lists .kept .0
 
--- src/write.rt:188:9
 returns : tie.Need-returns
 returns c =
     let t = c .before .before .before .before .before .before .before .before .before .before .before .before .before .before in
     let v = t .args in
     this-ends (v .ends0 .now) (v .ends1 .now) (v .scratch .now) (v .p) (v .q) (v .base) (v .next) (v .at) _ (v .out .now) (c .before .before .before .before .before .before .shared-slice-known7 .given (v .q + 1) .fits) (c .before .before .before .before .before .wrapping-sub-u64 .ensures) (c .before .before .before .before .if1 .taken) (c .before .before .put-lists .ensures)
 
--- src/write.rt:191:9
 put-lists-requires-2 : tie.Need-put-lists-requires-2
 put-lists-requires-2 c κs =
     let t = c .before .before .before .before .before .before .before .before .before .before .before .before in
     let v = t .args in
     that-lists (v .ends0 .now) (v .ends1 .now) (v .scratch .now) (v .p) (v .q) (v .base) (v .next) (v .at) _ (t .pre) (c .before .if2 .taken)
 
--- src/write.rt:192:22
 sub-result-2 : tie.Need-sub-result-2
 sub-result-2 c =
     let t = c .before .before .before .before .before .before .before .before .before .before .before .before .before .before .before in
     let v = t .args in
     let m = that-lists (v .ends0 .now) (v .ends1 .now) (v .scratch .now) (v .p) (v .q) (v .base) (v .next) (v .at) _ (t .pre) (c .before .before .before .before .if2 .taken) in omega (arith, m .0 .ordered)
 
--- src/write.rt:192:16
 add-result-2 : tie.Need-add-result-2
 add-result-2 c =
     let t = c .before .before .before .before .before .before .before .before .before .before .before .before .before .before .before in
     let v = t .args in
     let m = that-lists (v .ends0 .now) (v .ends1 .now) (v .scratch .now) (v .p) (v .q) (v .base) (v .next) (v .at) _ (t .pre) (c .before .before .before .before .if2 .taken) in omega (arith, m .0 .ordered, m .0 .fits, m .1 .0, t .good .1 .1 .1 .1 .1 .1 .1 .0)
 
--- src/write.rt:192:9
 same-length-2 : tie.Need-same-length-2
 same-length-2 c = c .before .before .put-lists2 .kept .0
 
--- src/write.rt:192:9
 returns-2 : tie.Need-returns-2
 returns-2 c =
     let t = c .before .before .before .before .before .before .before .before .before .before .before .before .before .before .before in
     let v = t .args in
     that-ends (v .ends0 .now) (v .ends1 .now) (v .scratch .now) (v .p) (v .q) (v .base) (v .next) (v .at) _ (v .out .now) (c .before .before .before .before .before .before .before .shared-slice-known7 .given (v .q + 1) .fits) (c .before .before .before .before .before .before .wrapping-sub-u64 .ensures) (c .before .before .before .before .if2 .taken) (c .before .before .put-lists2 .ensures)
 
--- src/write.rt:194:5
 mul-out : tie.Need-mul-out
 mul-out c = search needs
 
--- src/write.rt:194:5
 slice-write-out : tie.Need-slice-write-out
 slice-write-out c = search needs
 
--- src/write.rt:195:5
 add-result-3 : tie.Need-add-result-3
 add-result-3 c = search needs
 
--- src/write.rt:167:1
 same-length-3 : tie.Need-same-length-3
 same-length-3 c = search needs
 
--- src/write.rt:167:1
 returns-3 : tie.Need-returns-3
 returns-3 c =
     let t = c .before .before .before .before .before .before .before .before .before .before .before in

@@ -5,125 +5,102 @@ use borrow.Author.Needs.{needs}
 use Rattle.merge.proofs.write.write_run.Statement.{statement}
 use Rattle.merge.proofs.write.write_run.Tie as tie
 
--- src/write.rt:37:16
 mul-kind : tie.Need-mul-kind
 mul-kind c = search needs
 
--- src/write.rt:37:16
 shared-slice-read-kind : tie.Need-shared-slice-read-kind
 shared-slice-read-kind c = search needs
 
--- src/write.rt:38:23
 add-low : tie.Need-add-low
 add-low c = search needs
 
--- src/write.rt:38:15
 mul-low : tie.Need-mul-low
 mul-low c = search needs
 
--- src/write.rt:38:15
 shared-slice-read-low : tie.Need-shared-slice-read-low
 shared-slice-read-low c = search needs
 
--- src/write.rt:39:24
 add-high : tie.Need-add-high
 add-high c = search needs
 
--- src/write.rt:39:16
 mul-high : tie.Need-mul-high
 mul-high c = search needs
 
--- src/write.rt:39:16
 shared-slice-read-high : tie.Need-shared-slice-read-high
 shared-slice-read-high c = search needs
 
--- src/write.rt:41:9
 put-items-requires : tie.Need-put-items-requires
 put-items-requires c κs =
     let t = c .before .before .before .before .before .before .before .before .before in
     let v = t .args in
     this-room (v .first .now) (v .second .now) (v .scratch .now) (v .p) (v .at) _ (t .pre) (c .before .if1 .taken)
 
--- src/write.rt:42:22
 sub-result : tie.Need-sub-result
 sub-result c =
     let t = c .before .before .before .before .before .before .before .before .before .before .before .before in
     let v = t .args in
     let m = this-room (v .first .now) (v .second .now) (v .scratch .now) (v .p) (v .at) _ (t .pre) (c .before .before .before .before .if1 .taken) in omega (arith, m .ordered)
 
--- src/write.rt:42:16
 add-result : tie.Need-add-result
 add-result c =
     let t = c .before .before .before .before .before .before .before .before .before .before .before .before in
     let v = t .args in
     let m = this-room (v .first .now) (v .second .now) (v .scratch .now) (v .p) (v .at) _ (t .pre) (c .before .before .before .before .if1 .taken) in omega (arith, m .fits, t .good .1 .1 .1 .1 .0)
 
--- src/write.rt:42:9
 same-length : tie.Need-same-length
 same-length c = c .before .before .put-items .kept .0
 
--- src/write.rt:42:9
 returns : tie.Need-returns
 returns c =
     let t = c .before .before .before .before .before .before .before .before .before .before .before .before in
     let v = t .args in
     this-written (v .first .now) (v .second .now) (v .scratch .now) (v .p) (v .at) (v .out .now) (c .before .before .before .before .if1 .taken) (c .before .before .put-items .ensures)
 
--- src/write.rt:45:9
 put-items-requires-2 : tie.Need-put-items-requires-2
 put-items-requires-2 c κs =
     let t = c .before .before .before .before .before .before .before .before .before .before in
     let v = t .args in
     that-room (v .first .now) (v .second .now) (v .scratch .now) (v .p) (v .at) _ (t .pre) (c .before .if2 .taken)
 
--- src/write.rt:46:22
 sub-result-2 : tie.Need-sub-result-2
 sub-result-2 c =
     let t = c .before .before .before .before .before .before .before .before .before .before .before .before .before in
     let v = t .args in
     let m = that-room (v .first .now) (v .second .now) (v .scratch .now) (v .p) (v .at) _ (t .pre) (c .before .before .before .before .if2 .taken) in omega (arith, m .ordered)
 
--- src/write.rt:46:16
 add-result-2 : tie.Need-add-result-2
 add-result-2 c =
     let t = c .before .before .before .before .before .before .before .before .before .before .before .before .before in
     let v = t .args in
     let m = that-room (v .first .now) (v .second .now) (v .scratch .now) (v .p) (v .at) _ (t .pre) (c .before .before .before .before .if2 .taken) in omega (arith, m .fits, t .good .1 .1 .1 .1 .0)
 
--- src/write.rt:46:9
 same-length-2 : tie.Need-same-length-2
 same-length-2 c = c .before .before .put-items2 .kept .0
 
--- src/write.rt:46:9
 returns-2 : tie.Need-returns-2
 returns-2 c =
     let t = c .before .before .before .before .before .before .before .before .before .before .before .before .before in
     let v = t .args in
     that-written (v .first .now) (v .second .now) (v .scratch .now) (v .p) (v .at) (v .out .now) (c .before .before .before .before .if2 .taken) (c .before .before .put-items2 .ensures)
 
--- src/write.rt:48:36
 add-put-items : tie.Need-add-put-items
 add-put-items c =
     let t = c .before .before .before .before .before .before .before .before .before .before in
     let v = t .args in
     let m = both-room (v .first .now) (v .second .now) (v .scratch .now) (v .p) (v .at) _ (t .pre) (c .before .before .if1 .left) (c .before .if2 .left) in omega (arith, m .within, t .good .0)
 
--- src/write.rt:48:5
 put-items-requires-3 : tie.Need-put-items-requires-3
 put-items-requires-3 c κs =
     let t = c .before .before .before .before .before .before .before .before .before .before in
     let v = t .args in
     both-room (v .first .now) (v .second .now) (v .scratch .now) (v .p) (v .at) _ (t .pre) (c .before .before .if1 .left) (c .before .if2 .left)
 
--- src/write.rt:49:5
 add-result-3 : tie.Need-add-result-3
 add-result-3 c = search needs
 
--- src/write.rt:32:1
 same-length-3 : tie.Need-same-length-3
 same-length-3 c = c .before .before .put-items3 .kept .0
 
--- src/write.rt:32:1
 returns-3 : tie.Need-returns-3
 returns-3 c =
     let t = c .before .before .before .before .before .before .before .before .before .before .before .before .before in

@@ -30,111 +30,84 @@ abbrev μ-loop : tie.MeasureT-loop
 room : (a : tie.Start Inv-loop μ-loop) → Fits w64 ((a .args .base + (a .args .n + (a .args .n + a .args .n))) * 8)
 room a = omega (arith, a .pre .1 .1 .0, a .good .1 .1 .1 .1 .1 .1 .1 .1 .1 .1 .0)
 
--- src/layers.rt:36:9
 child-range-requires : tie.Need-child-range-requires Inv-loop μ-loop
 child-range-requires c κs = search needs
 
--- src/layers.rt:40:5
 loop-holds : tie.Need-loop-holds Inv-loop μ-loop
 loop-holds c = let a = c .before .before .before .before .before .before in (refl, (a .pre .1 .1 .0, (omega (arith, a .pre .1 .0 .0), (range-lower _ (a .args .from) _ (c .child-range .ensures) (omega (arith, a .pre .0 .1 .0, a .pre .1 .0 .0, a .pre .1 .0 .1)), a .pre .1 .1 .1))))
 
--- src/layers.rt:42:13
 same-length : tie.Need-same-length Inv-loop μ-loop
 same-length c = let a = c .before .before .before .before .before .before .before .before .before in let l = c .before .before .loop in let t = c .before .loop-test .taken in let v = l .inv .1 .1 .1 .1 in sym (l .inv .1 .0) ∙ a .pre .1 .1 .0
 
--- src/layers.rt:42:13
 returns : tie.Need-returns Inv-loop μ-loop
 returns c = let a = c .before .before .before .before .before .before .before .before .before in let l = c .before .before .loop in let t = c .before .loop-test .taken in let v = l .inv .1 .1 .1 .1 in (l .inv .0, leaving-done _ _ _ _ _ _ _ (l .i) (a .args .to) v (c .if1 .taken) (l .inv .1 .1 .0) (a .pre .1 .0 .1))
 
--- src/layers.rt:44:21
 mul-upper : tie.Need-mul-upper Inv-loop μ-loop
 mul-upper c = let a = c .before .before .before .before .before .before .before .before .before in let l = c .before .before .loop in let t = c .before .loop-test .taken in let v = l .inv .1 .1 .1 .1 in let g = c .if1 .left in let h = leaving-within _ _ _ _ _ _ _ (l .i) v g in omega (arith, a .good)
 
--- src/layers.rt:44:21
 shared-slice-read-upper : tie.Need-shared-slice-read-upper Inv-loop μ-loop
 shared-slice-read-upper c = let a = c .before .before .before .before .before .before .before .before .before .before in let l = c .before .before .before .loop in let t = c .before .before .loop-test .taken in let v = l .inv .1 .1 .1 .1 in let g = c .before .if1 .left in let h = leaving-within _ _ _ _ _ _ _ (l .i) v g in omega (arith, a .pre .0 .1 .0)
 
--- src/layers.rt:45:26
 mul-out : tie.Need-mul-out Inv-loop μ-loop
 mul-out c = let a = c .before .before .before .before .before .before .before .before .before .before in let l = c .before .before .before .loop in let t = c .before .before .loop-test .taken in let v = l .inv .1 .1 .1 .1 in let g = c .before .if1 .left in let h = leaving-within _ _ _ _ _ _ _ (l .i) v g in omega (arith, a .good)
 
--- src/layers.rt:45:26
 shared-slice-read-out : tie.Need-shared-slice-read-out Inv-loop μ-loop
 shared-slice-read-out c = let a = c .before .before .before .before .before .before .before .before .before .before .before in let l = c .before .before .before .before .loop in let t = c .before .before .before .loop-test .taken in let v = l .inv .1 .1 .1 .1 in let g = c .before .before .if1 .left in let h = leaving-within _ _ _ _ _ _ _ (l .i) v g in h
 
--- src/layers.rt:45:13
 add-out : tie.Need-add-out Inv-loop μ-loop
 add-out c = omega (arith, c .before .before .if1 .left, room (c .before .before .before .before .before .before .before .before .before .before .before))
 
--- src/layers.rt:45:9
 mul-out-2 : tie.Need-mul-out-2 Inv-loop μ-loop
 mul-out-2 c = omega (arith, c .before .before .if1 .left, room (c .before .before .before .before .before .before .before .before .before .before .before))
 
--- src/layers.rt:45:9
 slice-write-out : tie.Need-slice-write-out Inv-loop μ-loop
 slice-write-out c = omega (arith, c .before .before .if1 .left, c .before .before .before .before .loop .inv .1 .0)
 
--- src/layers.rt:46:34
 mul-out-3 : tie.Need-mul-out-3 Inv-loop μ-loop
 mul-out-3 c = let a = c .before .before .before .before .before .before .before .before .before .before .before in let l = c .before .before .before .before .loop in let t = c .before .before .before .loop-test .taken in let v = l .inv .1 .1 .1 .1 in let g = c .before .before .if1 .left in let h = leaving-within _ _ _ _ _ _ _ (l .i) v g in let d = leaving-diff _ _ _ _ _ _ _ (l .i) v g (a .pre .0 .1 .0) (a .pre .0 .0 .steps) (a .pre .0 .1 .1) (λ k q. and-left _ _ q) in let e = l .inv .1 .1 .1 .0 in omega (arith, a .good)
 
--- src/layers.rt:46:34
 shared-slice-read-out-2 : tie.Need-shared-slice-read-out-2 Inv-loop μ-loop
 shared-slice-read-out-2 c = let a = c .before .before .before .before .before .before .before .before .before .before .before .before in let l = c .before .before .before .before .before .loop in let t = c .before .before .before .before .loop-test .taken in let v = l .inv .1 .1 .1 .1 in let g = c .before .before .before .if1 .left in let h = leaving-within _ _ _ _ _ _ _ (l .i) v g in let d = leaving-diff _ _ _ _ _ _ _ (l .i) v g (a .pre .0 .1 .0) (a .pre .0 .0 .steps) (a .pre .0 .1 .1) (λ k q. and-left _ _ q) in let e = l .inv .1 .1 .1 .0 in omega (arith, d, e)
 
--- src/layers.rt:46:13
 add-out-2 : tie.Need-add-out-2 Inv-loop μ-loop
 add-out-2 c = omega (arith, c .before .before .before .if1 .left, room (c .before .before .before .before .before .before .before .before .before .before .before .before))
 
--- src/layers.rt:46:13
 add-out-3 : tie.Need-add-out-3 Inv-loop μ-loop
 add-out-3 c = omega (arith, c .before .before .before .if1 .left, room (c .before .before .before .before .before .before .before .before .before .before .before .before))
 
--- src/layers.rt:46:13
 add-out-4 : tie.Need-add-out-4 Inv-loop μ-loop
 add-out-4 c = omega (arith, c .before .before .before .if1 .left, room (c .before .before .before .before .before .before .before .before .before .before .before .before))
 
--- src/layers.rt:46:9
 mul-out-4 : tie.Need-mul-out-4 Inv-loop μ-loop
 mul-out-4 c = omega (arith, c .before .before .before .if1 .left, room (c .before .before .before .before .before .before .before .before .before .before .before .before))
 
--- src/layers.rt:46:9
 slice-write-out-2 : tie.Need-slice-write-out-2 Inv-loop μ-loop
 slice-write-out-2 c = simp length-set (omega (arith, c .before .before .before .if1 .left, c .before .before .before .before .before .loop .inv .1 .0))
 
--- src/layers.rt:47:13
 keeps-requires : tie.Need-keeps-requires Inv-loop μ-loop
 keeps-requires c κs = let a = c .before .before .before .before .before .before .before .before .before .before .before .before in let l = c .before .before .before .before .before .loop in let t = c .before .before .before .before .loop-test .taken in let v = l .inv .1 .1 .1 .1 in let g = c .before .before .before .if1 .left in let h = leaving-within _ _ _ _ _ _ _ (l .i) v g in (h, a .pre .0 .0 .stairs)
 
--- src/layers.rt:48:16
 sub-at : tie.Need-sub-at Inv-loop μ-loop
 sub-at c = let a = c .before .before .before .before .before .before .before .before .before .before .before .before .before in let l = c .before .before .before .before .before .before .loop in let t = c .before .before .before .before .before .loop-test .taken in let v = l .inv .1 .1 .1 .1 in let g = c .before .before .before .before .if1 .left in let h = leaving-within _ _ _ _ _ _ _ (l .i) v g in let b = end-bit _ (l .i) _ (a .pre .0 .0 .steps) (omega (arith, h, a .pre .0 .1 .0)) (l .inv .1 .1 .1 .0) in b .0
 
--- src/layers.rt:48:15
 mul-at : tie.Need-mul-at Inv-loop μ-loop
 mul-at c = let a = c .before .before .before .before .before .before .before .before .before .before .before .before .before in let l = c .before .before .before .before .before .before .loop in let t = c .before .before .before .before .before .loop-test .taken in let v = l .inv .1 .1 .1 .1 in let g = c .before .before .before .before .if1 .left in let h = leaving-within _ _ _ _ _ _ _ (l .i) v g in let b = end-bit _ (l .i) _ (a .pre .0 .0 .steps) (omega (arith, h, a .pre .0 .1 .0)) (l .inv .1 .1 .1 .0) in let q = (λ j. b .1 j * c .keeps .ensures j) ∙ bit-and _ _ in let o = bit-one _ _ q in omega (arith, o, b .0)
 
--- src/layers.rt:48:9
 add-at : tie.Need-add-at Inv-loop μ-loop
 add-at c = let a = c .before .before .before .before .before .before .before .before .before .before .before .before .before in let l = c .before .before .before .before .before .before .loop in let t = c .before .before .before .before .before .loop-test .taken in let v = l .inv .1 .1 .1 .1 in let g = c .before .before .before .before .if1 .left in let h = leaving-within _ _ _ _ _ _ _ (l .i) v g in let b = end-bit _ (l .i) _ (a .pre .0 .0 .steps) (omega (arith, h, a .pre .0 .1 .0)) (l .inv .1 .1 .1 .0) in let q = (λ j. b .1 j * c .keeps .ensures j) ∙ bit-and _ _ in let o = bit-one _ _ q in omega (arith, o, g, room a)
 
--- src/layers.rt:50:9
 add-i : tie.Need-add-i Inv-loop μ-loop
 add-i c = let a = c .before .before .before .before .before .before .before .before .before .before .before .before .before in let l = c .before .before .before .before .before .before .loop in let t = c .before .before .before .before .before .loop-test .taken in let v = l .inv .1 .1 .1 .1 in let g = c .before .before .before .before .if1 .left in let h = leaving-within _ _ _ _ _ _ _ (l .i) v g in omega (arith, a .good)
 
--- src/layers.rt:40:5
 loop-less : tie.Need-loop-less Inv-loop μ-loop
 loop-less c = omega (arith, c .before .before .before .before .before .loop-test .taken)
 
--- src/layers.rt:40:5
 loop-again : tie.Need-loop-again Inv-loop μ-loop
 loop-again c = let a = c .before .before .before .before .before .before .before .before .before .before .before .before .before in let l = c .before .before .before .before .before .before .loop in let t = c .before .before .before .before .before .loop-test .taken in let v = l .inv .1 .1 .1 .1 in let g = c .before .before .before .before .if1 .left in let h = leaving-within _ _ _ _ _ _ _ (l .i) v g in let b = end-bit _ (l .i) _ (a .pre .0 .0 .steps) (omega (arith, h, a .pre .0 .1 .0)) (l .inv .1 .1 .1 .0) in let q = (λ j. b .1 j * c .keeps .ensures j) ∙ bit-and _ _ in let p = put-behind (l .out) (a .args .base) (l .at) (a .args .n + a .args .n + l .at) (a .args .base + l .at) (a .args .base + a .args .n + a .args .n + l .at) _ _ refl (omega arith) in (p .0 ∙ l .inv .0, (l .inv .1 .0 ∙ sym (p .1 .0), (omega arith, (ap (startOf (a .args .diff-ends .now)) (sym (add-one (l .i))), rw (p .1 .1) (leaving-next _ _ _ _ _ _ _ (l .i) _ _ v g (l .inv .1 .1 .1 .0) q)))))
 
--- src/layers.rt:18:1
 same-length-2 : tie.Need-same-length-2 Inv-loop μ-loop
 same-length-2 c = let a = c .before .before .before .before .before .before .before .before in sym (c .before .loop .inv .1 .0) ∙ a .pre .1 .1 .0
 
--- src/layers.rt:18:1
 returns-2 : tie.Need-returns-2 Inv-loop μ-loop
 returns-2 c = let a = c .before .before .before .before .before .before .before .before in let l = c .before .loop in let e : l .i ≡ a .args .to = omega (arith, l .inv .1 .1 .0, c .loop-test .left) in (l .inv .0, rw (sym e) (l .inv .1 .1 .1 .1))
 

@@ -28,91 +28,69 @@ abbrev μ-loop : tie.MeasureT-loop
 room : (a : tie.Start Inv-loop μ-loop) → Fits w64 ((a .args .base + ((a .args .nv + a .args .nv) + (a .args .nt + (a .args .nt + a .args .nt)))) * 8)
 room a = omega (arith, a .pre .1 .1 .1 .0, a .good .1 .1 .1 .1 .1 .1 .1 .1 .1 .1 .1 .1 .1 .0)
 
--- src/layers.rt:82:5
 loop-holds : tie.Need-loop-holds Inv-loop μ-loop
 loop-holds c = let a = c .before .before .before .before .before .before .before in (refl, (a .pre .1 .1 .1 .0, (a .pre .1 .1 .0 .0, a .pre .1 .1 .1 .1)))
 
--- src/layers.rt:83:19
 mul-end : tie.Need-mul-end Inv-loop μ-loop
 mul-end c = let a = c .before .before .before .before .before .before .before .before .before in let l = c .before .loop in let v = l .inv .1 .1 .1 in let h = within _ _ _ (c .loop-test .taken) (a .pre .1 .1 .0 .1) in let o = a .pre .1 .0 .rows in omega (arith, a .good)
 
--- src/layers.rt:83:19
 shared-slice-read-end : tie.Need-shared-slice-read-end Inv-loop μ-loop
 shared-slice-read-end c = let a = c .before .before .before .before .before .before .before .before .before .before in let l = c .before .before .loop in let v = l .inv .1 .1 .1 in let h = within _ _ _ (c .before .loop-test .taken) (a .pre .1 .1 .0 .1) in let o = a .pre .1 .0 .rows in omega arith
 
--- src/layers.rt:94:13
 add-write-list : tie.Need-add-write-list Inv-loop μ-loop
 add-write-list c = omega (arith, room (c .before .before .before .before .before .before .before .before .before .before))
 
--- src/layers.rt:94:13
 add-write-list-2 : tie.Need-add-write-list-2 Inv-loop μ-loop
 add-write-list-2 c = omega (arith, room (c .before .before .before .before .before .before .before .before .before .before))
 
--- src/layers.rt:84:13
 write-list-requires : tie.Need-write-list-requires Inv-loop μ-loop
 write-list-requires c κs = let a = c .before .before .before .before .before .before .before .before .before .before .before in let l = c .before .before .before .loop in let v = l .inv .1 .1 .1 in let h = within _ _ _ (c .before .before .loop-test .taken) (a .pre .1 .1 .0 .1) in (a .pre .0, (next-times _ _ _ _ _ _ (a .pre .1 .0) _ _ _ _ _ _ (l .i) v h, (omega (arith, l .inv .1 .0), rw (sym (behind (l .out) (a .args .base) (a .args .nv) _ refl)) (v .leaves))))
 
--- src/layers.rt:98:30
 mul-out : tie.Need-mul-out Inv-loop μ-loop
 mul-out c = let a = c .before .before .before .before .before .before .before .before .before .before .before .before .before .before .before in let l = c .before .before .before .before .before .before .before .loop in let v = l .inv .1 .1 .1 in let h = within _ _ _ (c .before .before .before .before .before .before .loop-test .taken) (a .pre .1 .1 .0 .1) in omega (arith, a .good)
 
--- src/layers.rt:98:30
 shared-slice-read-out : tie.Need-shared-slice-read-out Inv-loop μ-loop
 shared-slice-read-out c = let a = c .before .before .before .before .before .before .before .before .before .before .before .before .before .before .before .before in let l = c .before .before .before .before .before .before .before .before .loop in let v = l .inv .1 .1 .1 in let h = within _ _ _ (c .before .before .before .before .before .before .before .loop-test .taken) (a .pre .1 .1 .0 .1) in h
 
--- src/layers.rt:98:17
 add-out : tie.Need-add-out Inv-loop μ-loop
 add-out c = omega (arith, c .before .if1 .taken, room (c .before .before .before .before .before .before .before .before .before .before .before .before .before .before .before .before))
 
--- src/layers.rt:98:13
 mul-out-2 : tie.Need-mul-out-2 Inv-loop μ-loop
 mul-out-2 c = omega (arith, c .before .if1 .taken, room (c .before .before .before .before .before .before .before .before .before .before .before .before .before .before .before .before))
 
--- src/layers.rt:98:13
 slice-write-out : tie.Need-slice-write-out Inv-loop μ-loop
 slice-write-out c = omega (arith, c .before .if1 .taken, c .before .before .before .before .before .before .before .before .loop .inv .1 .0, c .before .before .before .before .write-list .kept .1 .1 .1 .1 .1 .1 .1 .1 .1 .1 .0)
 
--- src/layers.rt:99:17
 add-out-2 : tie.Need-add-out-2 Inv-loop μ-loop
 add-out-2 c = omega (arith, c .before .if1 .taken, room (c .before .before .before .before .before .before .before .before .before .before .before .before .before .before .before .before))
 
--- src/layers.rt:99:17
 add-out-3 : tie.Need-add-out-3 Inv-loop μ-loop
 add-out-3 c = omega (arith, c .before .if1 .taken, room (c .before .before .before .before .before .before .before .before .before .before .before .before .before .before .before .before))
 
--- src/layers.rt:99:13
 mul-out-3 : tie.Need-mul-out-3 Inv-loop μ-loop
 mul-out-3 c = omega (arith, c .before .if1 .taken, room (c .before .before .before .before .before .before .before .before .before .before .before .before .before .before .before .before))
 
--- src/layers.rt:99:13
 slice-write-out-2 : tie.Need-slice-write-out-2 Inv-loop μ-loop
 slice-write-out-2 c = simp length-set (omega (arith, c .before .if1 .taken, c .before .before .before .before .before .before .before .before .loop .inv .1 .0, c .before .before .before .before .write-list .kept .1 .1 .1 .1 .1 .1 .1 .1 .1 .1 .0))
 
--- src/layers.rt:101:13
 bit-of-requires : tie.Need-bit-of-requires Inv-loop μ-loop
 bit-of-requires c κs = search needs
 
--- src/layers.rt:102:9
 add-at : tie.Need-add-at Inv-loop μ-loop
 add-at c = omega (arith, c .before .before .before .before .before .before .before .before .loop .inv .1 .1 .1 .values .place, bit-one _ _ (c .bit-of .ensures), room (c .before .before .before .before .before .before .before .before .before .before .before .before .before .before .before .before))
 
--- src/layers.rt:105:9
 add-i : tie.Need-add-i Inv-loop μ-loop
 add-i c = let a = c .before .before .before .before .before .before .before .before .before .before .before .before .before .before .before .before in let l = c .before .before .before .before .before .before .before .before .loop in let v = l .inv .1 .1 .1 in let h = within _ _ _ (c .before .before .before .before .before .before .before .loop-test .taken) (a .pre .1 .1 .0 .1) in omega (arith, a .good)
 
--- src/layers.rt:82:5
 loop-less : tie.Need-loop-less Inv-loop μ-loop
 loop-less c = omega (arith, c .before .before .before .before .before .before .before .loop-test .taken)
 
--- src/layers.rt:82:5
 loop-again : tie.Need-loop-again Inv-loop μ-loop
 loop-again c = let a = c .before .before .before .before .before .before .before .before .before .before .before .before .before .before .before .before in let l = c .before .before .before .before .before .before .before .before .loop in let v = l .inv .1 .1 .1 in let h = within _ _ _ (c .before .before .before .before .before .before .before .loop-test .taken) (a .pre .1 .1 .0 .1) in let r = c .before .before .before .before .write-list in let n = r .kept .1 .1 .1 .1 .1 .1 .1 .1 .1 .1 .0 in let o = a .pre .1 .0 in let f = a .args .base + a .args .nv + a .args .nv in ⊎-elim (λ w. let p = put-value _ _ _ _ _ _ o _ _ (l .out) _ (a .args .base) f _ _ (l .at) (l .i) _ refl (l .inv .1 .0) v h n (r .ensures .0) (r .ensures .1) (w .0 .taken) (a .args .base + l .at) (a .args .base + a .args .nv + l .at) _ _ refl (omega arith) (c .bit-of .ensures) (w .2) in (p .0 ∙ l .inv .0, (p .1 .0, (omega (arith, c .before .before .before .before .before .before .before .loop-test .taken), p .1 .1)))) (λ w. let p = pass-value _ _ _ _ _ _ o _ _ (l .out) _ (a .args .base) f _ _ (l .at) (l .i) _ refl (l .inv .1 .0) v h n (r .ensures .0) (r .ensures .1) (w .0 .left) _ _ (c .bit-of .ensures) (w .1) in (p .0 ∙ l .inv .0, (p .1 .0, (omega (arith, c .before .before .before .before .before .before .before .loop-test .taken), p .1 .1)))) (c .before .if1 .came)
 
--- src/layers.rt:56:1
 same-length : tie.Need-same-length Inv-loop μ-loop
 same-length c = let a = c .before .before .before .before .before .before .before .before .before in sym (c .before .loop .inv .1 .0) ∙ a .pre .1 .1 .1 .0
 
--- src/layers.rt:56:1
 returns : tie.Need-returns Inv-loop μ-loop
 returns c = let a = c .before .before .before .before .before .before .before .before .before in let l = c .before .loop in let e : l .i ≡ a .args .to = omega (arith, l .inv .1 .1 .0, c .loop-test .left) in (l .inv .0, rw (sym e) (l .inv .1 .1 .1))
 

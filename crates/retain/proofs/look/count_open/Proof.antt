@@ -14,39 +14,30 @@ Inv-loop times upper number₀ i₀ number i = Opened upper times number i
 abbrev μ-loop : tie.MeasureT-loop
 μ-loop times upper number₀ i₀ number i = length times - i
 
--- src/look.rt:83:5
 loop-holds : tie.Need-loop-holds Inv-loop μ-loop
 loop-holds c = opened-start _ _
 
--- src/look.rt:84:36
 mul-open-bit : tie.Need-mul-open-bit Inv-loop μ-loop
 mul-open-bit c = search needs
 
--- src/look.rt:84:36
 shared-slice-read-open-bit : tie.Need-shared-slice-read-open-bit Inv-loop μ-loop
 shared-slice-read-open-bit c = search needs
 
--- src/look.rt:84:20
 open-bit-requires : tie.Need-open-bit-requires Inv-loop μ-loop
 open-bit-requires c κs = search needs
 
--- src/look.rt:85:9
 add-number : tie.Need-add-number Inv-loop μ-loop
 add-number c = let l = c .before .before .before .loop in let f = l .inv .few in let m = bit-one _ _ (c .open-bit .ensures) in omega arith
 
--- src/look.rt:86:9
 add-i : tie.Need-add-i Inv-loop μ-loop
 add-i c = search needs
 
--- src/look.rt:83:5
 loop-less : tie.Need-loop-less Inv-loop μ-loop
 loop-less c = search needs
 
--- src/look.rt:83:5
 loop-again : tie.Need-loop-again Inv-loop μ-loop
 loop-again c = let l = c .before .before .before .loop in opened-bit _ _ _ (l .i) _ (l .inv) (c .before .before .loop-test .taken) (c .open-bit .ensures)
 
--- src/look.rt:77:1
 returns : tie.Need-returns Inv-loop μ-loop
 returns c = let l = c .before .loop in opened-end _ _ _ (l .i) (l .inv) (c .loop-test .left)
 

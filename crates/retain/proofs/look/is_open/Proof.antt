@@ -4,11 +4,9 @@ use borrow.Author.Needs.{needs}
 use Rattle.retain.proofs.look.is_open.Statement.{statement}
 use Rattle.retain.proofs.look.is_open.Tie as tie
 
--- src/look.rt:72:9
 open-bit-requires : tie.Need-open-bit-requires
 open-bit-requires c κs = search needs
 
--- src/look.rt:68:1
 returns : tie.Need-returns
 returns c = bit-true _ _ (c .open-bit .ensures)
 

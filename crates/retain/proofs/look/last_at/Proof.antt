@@ -15,55 +15,42 @@ Inv-loop corners t ignition at₀ left₀ at left = (o : ordered corners ≡ tru
 abbrev μ-loop : tie.MeasureT-loop
 μ-loop corners t ignition at₀ left₀ at left = left
 
--- src/look.rt:27:20
 sub-left : tie.Need-sub-left Inv-loop μ-loop
 sub-left c = search needs
 
--- src/look.rt:28:5
 loop-holds : tie.Need-loop-holds Inv-loop μ-loop
 loop-holds c = let a = c .before in (a .pre .0, seek-start _ (a .args .t) (a .pre .0) _ (a .pre .1) refl)
 
--- src/look.rt:29:20
 add-half : tie.Need-add-half Inv-loop μ-loop
 add-half c = search needs
 
--- src/look.rt:30:30
 add-corner : tie.Need-add-corner Inv-loop μ-loop
 add-corner c = search needs
 
--- src/look.rt:30:22
 mul-corner : tie.Need-mul-corner Inv-loop μ-loop
 mul-corner c = search needs
 
--- src/look.rt:30:22
 shared-slice-read-corner : tie.Need-shared-slice-read-corner Inv-loop μ-loop
 shared-slice-read-corner c = search needs
 
--- src/look.rt:31:20
 not-above-requires : tie.Need-not-above-requires Inv-loop μ-loop
 not-above-requires c κs = let l = c .before .before .loop in (omega (arith, c .shared-slice-known2 .given (l .at + (l .left / 2 + l .left % 2)) .fits), omega (arith, c .before .before .before .before .good))
 
--- src/look.rt:32:15
 mul-at : tie.Need-mul-at Inv-loop μ-loop
 mul-at c = let l = c .before .before .before .loop in let m = times-most (l .left / 2 + l .left % 2) (c .not-above .result) _ (c .not-above .ensures) in let w = l .inv .1 .within in omega (arith, c .before .before .before .before .before .good)
 
--- src/look.rt:32:9
 add-at : tie.Need-add-at Inv-loop μ-loop
 add-at c = let l = c .before .before .before .loop in let m = times-most (l .left / 2 + l .left % 2) (c .not-above .result) _ (c .not-above .ensures) in let w = l .inv .1 .within in omega (arith, c .before .before .before .before .before .good)
 
--- src/look.rt:33:9
 sub-left-2 : tie.Need-sub-left-2 Inv-loop μ-loop
 sub-left-2 c = search needs
 
--- src/look.rt:28:5
 loop-less : tie.Need-loop-less Inv-loop μ-loop
 loop-less c = search needs
 
--- src/look.rt:28:5
 loop-again : tie.Need-loop-again Inv-loop μ-loop
 loop-again c = let l = c .before .before .before .loop in (l .inv .0, seek-turn _ _ (l .inv .0) (l .at) (l .left) _ _ (l .inv .1) (c .before .before .loop-test .taken) refl (c .not-above .ensures))
 
--- src/look.rt:21:1
 returns : tie.Need-returns Inv-loop μ-loop
 returns c = let l = c .before .loop in seek-end _ _ (l .inv .0) (l .at) (l .left) (l .inv .1) (c .loop-test .left)
 

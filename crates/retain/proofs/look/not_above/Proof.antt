@@ -4,15 +4,12 @@ use borrow.Author.Needs.{needs}
 use Rattle.retain.proofs.look.not_above.Statement.{statement}
 use Rattle.retain.proofs.look.not_above.Tie as tie
 
--- src/look.rt:17:6
 add-result : tie.Need-add-result
 add-result c = search needs
 
--- src/look.rt:17:6
 sub-result : tie.Need-sub-result
 sub-result c = search needs
 
--- src/look.rt:13:1
 returns : tie.Need-returns
 returns c = half-bit (c .args .a) (c .args .b) (c .pre .0) (c .pre .1)
 

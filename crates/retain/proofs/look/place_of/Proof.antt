@@ -5,31 +5,24 @@ use borrow.Author.Needs.{needs}
 use Rattle.retain.proofs.look.place_of.Statement.{statement}
 use Rattle.retain.proofs.look.place_of.Tie as tie
 
--- src/look.rt:44:9
 returns : tie.Need-returns
 returns c = search needs
 
--- src/look.rt:46:9
 last-at-requires : tie.Need-last-at-requires
 last-at-requires c κs = search needs
 
--- src/look.rt:47:18
 mul-corner : tie.Need-mul-corner
 mul-corner c = search needs
 
--- src/look.rt:47:18
 shared-slice-read-corner : tie.Need-shared-slice-read-corner
 shared-slice-read-corner c = search needs
 
--- src/look.rt:48:16
 not-above-requires : tie.Need-not-above-requires
 not-above-requires c κs = (omega (arith, c .shared-slice-known2 .given (c .before .last-at .result) .fits), omega (arith, c .before .before .before .before .good))
 
--- src/look.rt:49:5
 add-result : tie.Need-add-result
 add-result c = let w = c .before .before .last-at .ensures .within in let m = bit-one _ _ (c .not-above .ensures) in omega (arith, c .before .before .before .before .before .good)
 
--- src/look.rt:39:1
 returns-2 : tie.Need-returns-2
 returns-2 c = let a = c .before .before .before .before .before in place-by _ (a .args .t) (a .pre) _ (c .before .before .last-at .ensures) _ (c .not-above .ensures)
 

@@ -4,12 +4,10 @@ use Rattle.retain.specs.Layers.{bit}
 use Rattle.retain.proofs.stay.bit_of.Statement.{statement}
 use Rattle.retain.proofs.stay.bit_of.Tie as tie
 
--- src/stay.rt:21:9
 returns : tie.Need-returns
 unfolding bit
 returns c = ap bit (sym (c .if1 .taken))
 
--- src/stay.rt:17:1
 returns-2 : tie.Need-returns-2
 unfolding bit
 returns-2 c = ap bit (sym (c .if1 .left))

@@ -14,56 +14,43 @@ use Rattle.retain.proofs.stay.keeps.Tie as tie
 known : (times corners : List ℕ) (i : ℕ) (k j : Keep) → k ≡ j → keepsAt j times corners i ≡ keepsAt k times corners i
 known times corners i k j e = ap (λ (x : Keep). keepsAt x times corners i) (sym e)
 
--- src/stay.rt:32:22
 enum-told : tie.Need-enum-told
 enum-told c = search needs
 
--- src/stay.rt:35:41
 enum-told-2 : tie.Need-enum-told-2
 enum-told-2 c = search needs
 
--- src/stay.rt:35:41
 mul-open-bit : tie.Need-mul-open-bit
 mul-open-bit c = search needs
 
--- src/stay.rt:35:41
 shared-slice-read-open-bit : tie.Need-shared-slice-read-open-bit
 shared-slice-read-open-bit c = search needs
 
--- src/stay.rt:35:23
 open-bit-requires : tie.Need-open-bit-requires
 open-bit-requires c κs = search needs
 
--- src/stay.rt:36:45
 enum-told-3 : tie.Need-enum-told-3
 enum-told-3 c = search needs
 
--- src/stay.rt:36:45
 mul-open-bit-2 : tie.Need-mul-open-bit-2
 mul-open-bit-2 c = search needs
 
--- src/stay.rt:36:45
 shared-slice-read-open-bit-2 : tie.Need-shared-slice-read-open-bit-2
 shared-slice-read-open-bit-2 c = search needs
 
--- src/stay.rt:36:27
 open-bit-requires-2 : tie.Need-open-bit-requires-2
 open-bit-requires-2 c κs = search needs
 
--- src/stay.rt:36:23
 sub-result : tie.Need-sub-result
 sub-result c = bit-one _ _ (c .open-bit2 .ensures)
 
--- src/stay.rt:27:1
 returns : tie.Need-returns
 unfolding bit
 returns c = search needs
 
--- src/stay.rt:27:1
 returns-2 : tie.Need-returns-2
 returns-2 c = let a = c .before .before .before .before .before .before .args in c .open-bit .ensures ∙ ap bit (known (a .times .now) (a .corners .now) (a .i) _ _ (c .before .before .enum-told2 .given .1))
 
--- src/stay.rt:27:1
 returns-3 : tie.Need-returns-3
 returns-3 c = let a = c .before .before .before .before .before .before .args in bit-not _ _ (c .open-bit2 .ensures) ∙ ap bit (known (a .times .now) (a .corners .now) (a .i) _ _ (c .before .before .enum-told3 .given .1))
 

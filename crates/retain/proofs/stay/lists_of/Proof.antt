@@ -9,59 +9,45 @@ use Rattle.retain.proofs.stay.lists_of.Tie as tie
 lent : (a : tie.Start) → Lending (a .args .words .now) (a .args .found)
 lent a = lending _ _ (a .pre .1) (omega (arith, a .good .0))
 
--- src/stay.rt:100:9
 mul-count-lists : tie.Need-mul-count-lists
 mul-count-lists c = lent (c .before) .its-diff-ends .bytes
 
--- src/stay.rt:100:9
 sub-count-lists : tie.Need-sub-count-lists
 sub-count-lists c = lent (c .before) .its-diff-ends .ordered
 
--- src/stay.rt:100:9
 part-count-lists-start : tie.Need-part-count-lists-start
 part-count-lists-start c = lent (c .before) .its-diff-ends .ordered
 
--- src/stay.rt:100:9
 part-count-lists-end : tie.Need-part-count-lists-end
 part-count-lists-end c = lent (c .before) .its-diff-ends .within
 
--- src/stay.rt:101:9
 mul-count-lists-2 : tie.Need-mul-count-lists-2
 mul-count-lists-2 c = lent (c .before .before) .its-time-ends .bytes
 
--- src/stay.rt:101:9
 sub-count-lists-2 : tie.Need-sub-count-lists-2
 sub-count-lists-2 c = lent (c .before .before) .its-time-ends .ordered
 
--- src/stay.rt:101:9
 part-count-lists-start-2 : tie.Need-part-count-lists-start-2
 part-count-lists-start-2 c = lent (c .before .before) .its-time-ends .ordered
 
--- src/stay.rt:101:9
 part-count-lists-end-2 : tie.Need-part-count-lists-end-2
 part-count-lists-end-2 c = lent (c .before .before) .its-time-ends .within
 
--- src/stay.rt:102:9
 mul-count-lists-3 : tie.Need-mul-count-lists-3
 mul-count-lists-3 c = lent (c .before .before .before) .its-val-ends .bytes
 
--- src/stay.rt:102:9
 sub-count-lists-3 : tie.Need-sub-count-lists-3
 sub-count-lists-3 c = lent (c .before .before .before) .its-val-ends .ordered
 
--- src/stay.rt:102:9
 part-count-lists-start-3 : tie.Need-part-count-lists-start-3
 part-count-lists-start-3 c = lent (c .before .before .before) .its-val-ends .ordered
 
--- src/stay.rt:102:9
 part-count-lists-end-3 : tie.Need-part-count-lists-end-3
 part-count-lists-end-3 c = lent (c .before .before .before) .its-val-ends .within
 
--- src/stay.rt:99:5
 count-lists-requires : tie.Need-count-lists-requires
 count-lists-requires c κs = let a = c .before .before .before .before in let w = a .args .words .now in let b = cut-bodies w (a .pre .0) (a .args .found) (a .pre .1) in (b .diffsStep, (rises-as _ _ _ (b .overTimes .rises) (sym (b .timeRows)), rises-as _ _ _ (b .overVals .rises) (b .overTimes .rows)))
 
--- src/stay.rt:89:1
 returns : tie.Need-returns
 returns c = let a = c .before .before .before .before .before in cut-standing (a .args .words .now) (a .pre .0) (a .args .found) (a .pre .1) _ _ (c .count-lists .ensures)
 

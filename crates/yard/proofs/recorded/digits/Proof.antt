@@ -11,51 +11,39 @@ Inv-loop text from word₀ at₀ word at = from ≤ at
 abbrev μ-loop : tie.MeasureT-loop
 μ-loop text from word₀ at₀ word at = length text - at
 
--- src/recorded.rt:38:5
 loop-holds : tie.Need-loop-holds Inv-loop μ-loop
 loop-holds c = search needs
 
--- src/recorded.rt:39:20
 shared-slice-read-byte : tie.Need-shared-slice-read-byte Inv-loop μ-loop
 shared-slice-read-byte c = search needs
 
--- src/recorded.rt:41:13
 returns : tie.Need-returns Inv-loop μ-loop
 returns c = search needs
 
--- src/recorded.rt:44:13
 returns-2 : tie.Need-returns-2 Inv-loop μ-loop
 returns-2 c = search needs
 
--- src/recorded.rt:47:13
 returns-3 : tie.Need-returns-3 Inv-loop μ-loop
 returns-3 c = search needs
 
--- src/recorded.rt:49:16
 mul-word : tie.Need-mul-word Inv-loop μ-loop
 mul-word c = search needs
 
--- src/recorded.rt:49:28
 digit-requires : tie.Need-digit-requires Inv-loop μ-loop
 digit-requires c κs = search needs
 
--- src/recorded.rt:49:16
 add-word : tie.Need-add-word Inv-loop μ-loop
 add-word c = search needs
 
--- src/recorded.rt:50:9
 add-at : tie.Need-add-at Inv-loop μ-loop
 add-at c = search needs
 
--- src/recorded.rt:38:5
 loop-less : tie.Need-loop-less Inv-loop μ-loop
 loop-less c = search needs
 
--- src/recorded.rt:38:5
 loop-again : tie.Need-loop-again Inv-loop μ-loop
 loop-again c = search needs
 
--- src/recorded.rt:33:1
 returns-4 : tie.Need-returns-4 Inv-loop μ-loop
 returns-4 c = search needs
 

@@ -4,31 +4,24 @@ use borrow.Author.Needs.{needs}
 use Rattle.yard.proofs.recorded.past_case.Statement.{statement}
 use Rattle.yard.proofs.recorded.past_case.Tie as tie
 
--- src/recorded.rt:204:9
 past-requires : tie.Need-past-requires
 past-requires c κs = search needs
 
--- src/recorded.rt:205:9
 past-requires-2 : tie.Need-past-requires-2
 past-requires-2 c κs = search needs
 
--- src/recorded.rt:206:9
 past-requires-3 : tie.Need-past-requires-3
 past-requires-3 c κs = search needs
 
--- src/recorded.rt:207:9
 past-requires-4 : tie.Need-past-requires-4
 past-requires-4 c κs = search needs
 
--- src/recorded.rt:208:9
 past-requires-5 : tie.Need-past-requires-5
 past-requires-5 c κs = search needs
 
--- src/recorded.rt:209:5
 past-requires-6 : tie.Need-past-requires-6
 past-requires-6 c κs = search needs
 
--- src/recorded.rt:201:1
 returns : tie.Need-returns
 returns c = λ h. omega (arith, c .before .before .before .before .before .past .ensures .1 h, c .before .before .before .before .past2 .ensures .0, c .before .before .before .past3 .ensures .0, c .before .before .past4 .ensures .0, c .before .past5 .ensures .0, c .past6 .ensures .0)
 

@@ -13,57 +13,44 @@ Inv-loop words at₀ cases₀ same₀ at cases same = (same ≤ cases) × (cases
 abbrev μ-loop : tie.MeasureT-loop
 μ-loop words at₀ cases₀ same₀ at cases same = length words - at
 
--- src/recorded.rt:242:5
 loop-holds : tie.Need-loop-holds Inv-loop μ-loop
 loop-holds c = search needs
 
--- src/recorded.rt:243:12
 mul-if1 : tie.Need-mul-if1 Inv-loop μ-loop
 mul-if1 c = search needs
 
--- src/recorded.rt:243:12
 shared-slice-read-if1 : tie.Need-shared-slice-read-if1 Inv-loop μ-loop
 shared-slice-read-if1 c = search needs
 
--- src/recorded.rt:244:13
 tell-requires : tie.Need-tell-requires Inv-loop μ-loop
 tell-requires c κs = search needs
 
--- src/recorded.rt:245:13
 returns : tie.Need-returns Inv-loop μ-loop
 returns c = search needs
 
--- src/recorded.rt:247:12
 replayed-requires : tie.Need-replayed-requires Inv-loop μ-loop
 replayed-requires c κs = search needs
 
--- src/recorded.rt:248:13
 add-same : tie.Need-add-same Inv-loop μ-loop
 add-same c = search needs
 
--- src/recorded.rt:250:9
 add-cases : tie.Need-add-cases Inv-loop μ-loop
 add-cases c = search needs
 
--- src/recorded.rt:251:9
 past-case-requires : tie.Need-past-case-requires Inv-loop μ-loop
 past-case-requires c κs = search needs
 
--- src/recorded.rt:242:5
 loop-less : tie.Need-loop-less Inv-loop μ-loop
 loop-less c = omega (arith, c .past-case .ensures (c .before .before .before .before .before .loop-test .taken), c .before .before .before .before .before .loop-test .taken)
 
--- src/recorded.rt:242:5
 loop-again : tie.Need-loop-again Inv-loop μ-loop
 loop-again c =
     let p = c .past-case .ensures (c .before .before .before .before .before .loop-test .taken) in
     ⊎-elim (λ w. omega arith) (λ w. omega arith) (c .before .if2 .came)
 
--- src/recorded.rt:253:5
 tell-requires-2 : tie.Need-tell-requires-2 Inv-loop μ-loop
 tell-requires-2 c κs = search needs
 
--- src/recorded.rt:238:1
 returns-2 : tie.Need-returns-2 Inv-loop μ-loop
 returns-2 c = search needs
 

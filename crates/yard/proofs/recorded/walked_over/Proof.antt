@@ -12,111 +12,84 @@ Inv-loop a x walker₀ record₀ i₀ walker «record» i = (i ≤ length x) × 
 abbrev μ-loop : tie.MeasureT-loop
 μ-loop a x walker₀ record₀ i₀ walker «record» i = length x - i
 
--- src/recorded.rt:397:8
 rl-walk-start-requires : tie.Need-rl-walk-start-requires Inv-loop μ-loop
 rl-walk-start-requires c κs = search needs
 
--- src/recorded.rt:398:9
 same-length : tie.Need-same-length Inv-loop μ-loop
 same-length c = search needs
 
--- src/recorded.rt:398:9
 returns : tie.Need-returns Inv-loop μ-loop
 returns c = search needs
 
--- src/recorded.rt:401:5
 loop-holds : tie.Need-loop-holds Inv-loop μ-loop
 loop-holds c = search needs
 
--- src/recorded.rt:402:12
 rl-walk-step-requires : tie.Need-rl-walk-step-requires Inv-loop μ-loop
 rl-walk-step-requires c κs = search needs
 
--- src/recorded.rt:403:13
 same-length-2 : tie.Need-same-length-2 Inv-loop μ-loop
 same-length-2 c = search needs
 
--- src/recorded.rt:403:13
 same-length-3 : tie.Need-same-length-3 Inv-loop μ-loop
 same-length-3 c = search needs
 
--- src/recorded.rt:403:13
 returns-2 : tie.Need-returns-2 Inv-loop μ-loop
 returns-2 c = search needs
 
--- src/recorded.rt:405:12
 sub-if3 : tie.Need-sub-if3 Inv-loop μ-loop
 sub-if3 c = search needs
 
--- src/recorded.rt:406:13
 same-length-4 : tie.Need-same-length-4 Inv-loop μ-loop
 same-length-4 c = search needs
 
--- src/recorded.rt:406:13
 same-length-5 : tie.Need-same-length-5 Inv-loop μ-loop
 same-length-5 c = search needs
 
--- src/recorded.rt:406:13
 returns-3 : tie.Need-returns-3 Inv-loop μ-loop
 returns-3 c = search needs
 
--- src/recorded.rt:408:19
 add-end : tie.Need-add-end Inv-loop μ-loop
 add-end c = search needs
 
--- src/recorded.rt:409:33
 mul-same : tie.Need-mul-same Inv-loop μ-loop
 mul-same c = search needs
 
--- src/recorded.rt:409:33
 sub-same : tie.Need-sub-same Inv-loop μ-loop
 sub-same c = search needs
 
--- src/recorded.rt:409:33
 part-same-start : tie.Need-part-same-start Inv-loop μ-loop
 part-same-start c = search needs
 
--- src/recorded.rt:409:33
 part-same-end : tie.Need-part-same-end Inv-loop μ-loop
 part-same-end c = search needs
 
--- src/recorded.rt:409:13
 same-requires : tie.Need-same-requires Inv-loop μ-loop
 same-requires c κs = search needs
 
--- src/recorded.rt:410:13
 same-length-6 : tie.Need-same-length-6 Inv-loop μ-loop
 same-length-6 c = search needs
 
--- src/recorded.rt:410:13
 same-length-7 : tie.Need-same-length-7 Inv-loop μ-loop
 same-length-7 c = search needs
 
--- src/recorded.rt:410:13
 returns-4 : tie.Need-returns-4 Inv-loop μ-loop
 returns-4 c = search needs
 
--- src/recorded.rt:401:5
 loop-less : tie.Need-loop-less Inv-loop μ-loop
 loop-less c = search needs
 
--- src/recorded.rt:401:5
 loop-again : tie.Need-loop-again Inv-loop μ-loop
 loop-again c = search needs
 
--- src/recorded.rt:414:5
 rl-walk-step-requires-2 : tie.Need-rl-walk-step-requires-2 Inv-loop μ-loop
 rl-walk-step-requires-2 c κs = search needs
 
--- src/recorded.rt:396:1
 same-length-8 : tie.Need-same-length-8 Inv-loop μ-loop
 same-length-8 c = search needs
 
--- src/recorded.rt:396:1
 same-length-9 : tie.Need-same-length-9 Inv-loop μ-loop
 same-length-9 c = search needs
 
--- src/recorded.rt:396:1
 returns-5 : tie.Need-returns-5 Inv-loop μ-loop
 returns-5 c = search needs
 

@@ -1,4 +1,5 @@
-/* Folds and checks fault logs. A line of a log is `truck fault ignition tick change`; `#` starts a comment.
+/* Folds and checks fault logs. A line of a log is `truck fault ignition tick change`; `#` starts a comment; a carriage return may stand before
+ * the newline, and a byte order mark before the first line.
  *   rafterloop fold LOG..     what all the logs together say, in order, with what cancelled left out
  *   rafterloop check LOG..    whether each log can be read and forms a chunk
  * Exit status: 0 where all went well, 1 where a log is bad or refused, 2 for a wrong command. */
@@ -66,7 +67,7 @@ static void add_word(struct updates *u, uint64_t word)
 /* The next field of a line: a whole number of at most `most`, with a sign where `is_signed`. Returns what is wrong, or NULL. */
 static const char *field(char **at, uint64_t most, int is_signed, uint64_t *out)
 {
-    char *p = *at + strspn(*at, " \t\r");
+    char *p = *at + strspn(*at, " \t");
     if (!*p)
         return "is missing";
     int minus = is_signed && *p == '-';
@@ -77,7 +78,7 @@ static const char *field(char **at, uint64_t most, int is_signed, uint64_t *out)
     errno = 0;
     char *end;
     unsigned long long n = strtoull(p, &end, 10);
-    if (*end && !strchr(" \t\r", *end))
+    if (*end && !strchr(" \t", *end))
         return "is not a whole number";
     if (errno || n > most)
         return "is too large";
@@ -92,24 +93,26 @@ static int bad(const char *name, unsigned long line, const char *what, const cha
     return 1;
 }
 
-/* One line, without its newline, onto the updates. Returns 0, or 1 with a message printed. */
+/* One line, without its end, onto the updates. Returns 0, or 1 with a message printed. */
 static int read_line(const char *name, unsigned long number, char *text, struct updates *u)
 {
     static const char *const names[5] = {"truck", "fault", "ignition", "tick", "change"};
     static const uint64_t most[5] = {UINT64_MAX, UINT64_MAX, UINT32_MAX, UINT32_MAX, INT64_MAX};
     uint64_t f[5];
+    if (strchr(text, '\r'))
+        return bad(name, number, "line", "has a carriage return inside: a line ends with a newline, or with a carriage return and a newline");
     char *comment = strchr(text, '#');
     if (comment)
         *comment = 0;
     char *at = text;
-    if (!at[strspn(at, " \t\r")])
+    if (!at[strspn(at, " \t")])
         return 0;
     for (int i = 0; i < 5; i++) {
         const char *why = field(&at, most[i], i == 4, &f[i]);
         if (why)
             return bad(name, number, names[i], why);
     }
-    if (at[strspn(at, " \t\r")])
+    if (at[strspn(at, " \t")])
         return bad(name, number, "line", "has more than truck, fault, ignition, tick, change");
     add_word(u, f[0]);
     add_word(u, f[1]);
@@ -118,7 +121,8 @@ static int read_line(const char *name, unsigned long number, char *text, struct 
     return 0;
 }
 
-/* All lines of a log onto the updates; every bad line is named. Returns 0 where all are good. */
+/* All lines of a log onto the updates, a byte order mark in front passed over; every bad line is named. Returns 0 where all are good and the
+ * log was read to its end. */
 static int read_log(const char *name, struct updates *u)
 {
     FILE *in = fopen(name, "r");
@@ -131,18 +135,22 @@ static int read_log(const char *name, struct updates *u)
     ssize_t got;
     unsigned long number = 0;
     int wrong = 0;
-    while ((got = getline(&text, &room, in)) != -1) {
+    /* where a read fails within a line, getline hands over the line's front; so ferror is asked too */
+    while (errno = 0, (got = getline(&text, &room, in)) != -1 && !ferror(in)) {
         number++;
         if (strlen(text) != (size_t)got) {
             wrong |= bad(name, number, "line", "has a zero byte");
             continue;
         }
         if (got && text[got - 1] == '\n')
-            text[got - 1] = 0;
-        wrong |= read_line(name, number, text, u);
+            text[--got] = 0;
+        if (got && text[got - 1] == '\r')
+            text[--got] = 0;
+        int marked = number == 1 && !strncmp(text, "\xEF\xBB\xBF", 3);
+        wrong |= read_line(name, number, text + (marked ? 3 : 0), u);
     }
-    if (ferror(in)) {
-        fprintf(stderr, "%s: %s\n", name, strerror(errno));
+    if (!feof(in)) {
+        fprintf(stderr, "%s: can't be read to the end: %s\n", name, strerror(errno));
         wrong = 1;
     }
     free(text);

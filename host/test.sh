@@ -1,6 +1,6 @@
 #!/bin/sh
 # Runs build/rafterloop on good and bad logs and compares status and words. Run from the top of the repository, after `make`.
-# RUN names an emulator where the machine isn't x86-64. Natively, every run is under valgrind where it is installed.
+# RUN names an emulator where the machine isn't x86-64. Natively, every run but those under a limit on memory is under valgrind where it is installed.
 set -u
 program=build/rafterloop
 dir=$(mktemp -d)
@@ -42,11 +42,23 @@ folded() {
     fi
 }
 
+# wrong WORDS LOG: a log that neither command takes
+wrong() {
+    expect 1 "$1" fold "$2"
+    expect 1 "$1" check "$2"
+}
+
 # bad LINE WORDS: a log whose second line is bad
 bad() {
     printf '1 1 1 1 1\n%s\n' "$1" > "$dir/bad.log"
-    expect 1 "bad.log:2: $2" fold "$dir/bad.log"
-    expect 1 "bad.log:2: $2" check "$dir/bad.log"
+    wrong "bad.log:2: $2" "$dir/bad.log"
+}
+
+# good WANT UPDATES TEXT: a log of this text, with escapes as in %b: all that a fold of it says, and how many updates a check counts
+good() {
+    printf '%b' "$3" > "$dir/good.log"
+    folded "$1" "$dir/good.log"
+    expect 0 "good.log: good, $2 updates" check "$dir/good.log"
 }
 
 expect 2 usage
@@ -132,6 +144,42 @@ bad '1 2 3 4 --5' 'change is not a whole number'
 bad '1 2 3 4 5 6' 'line has more than'
 printf '1 1 1 1 1\0\n' > "$dir/zero.log"
 expect 1 'zero.log:1: line has a zero byte' fold "$dir/zero.log"
+
+# a carriage return is good before a newline and at the very end, and nowhere else: not as the only line end, not in a comment
+two='5 6 7 8 +9
+5 6 7 9 -9
+'
+good "$two" 2 '# a comment\r\n5 6 7 8 +9\r\n\r\n5 6 7 9 -9 # another\r\n'
+good "$two" 2 '5 6 7 9 -9\r\n5 6 7 8 +9\r'
+printf '# a comment\r5 6 7 8 +9\r5 6 7 9 -9\r' > "$dir/return.log"
+wrong 'return.log:1: line has a carriage return inside' "$dir/return.log"
+printf '5 6 7 8 +9\r5 6 7 9 -9\r' > "$dir/return.log"
+wrong 'return.log:1: line has a carriage return inside' "$dir/return.log"
+bad "$(printf '1 2 3 4 5 # a\rcomment')" 'line has a carriage return inside'
+bad "$(printf '1 2 3\r4 5')" 'line has a carriage return inside'
+bad "$(printf '1 2 3 4 5\r\r')" 'line has a carriage return inside'
+# a byte order mark is passed over at the very start, and nowhere else
+good "$two" 2 '\0357\0273\02775 6 7 8 +9\n5 6 7 9 -9\n'
+good "$two" 2 '\0357\0273\0277# a comment\r\n5 6 7 9 -9\r\n5 6 7 8 +9\r\n'
+good '' 0 '\0357\0273\0277'
+bad "$(printf '\357\273\2771 2 3 4 5')" 'truck is not a whole number'
+bad "$(printf '1 2 3 4 5\357\273\277')" 'change is not a whole number'
+printf '\357\273\277\357\273\2771 2 3 4 5\n' > "$dir/marks.log"
+wrong 'marks.log:1: truck is not a whole number' "$dir/marks.log"
+
+# a folder is no log
+mkdir "$dir/folder.log"
+wrong 'folder.log: can.t be read to the end: Is a directory' "$dir/folder.log"
+# under a limit on memory (kilobytes; the emulator starts with half of it), a good log is good; but a good line and then 1 GB without a newline,
+# which take no room on the disk, are no log of one update
+limited() { (ulimit -v 500000 && exec "$@"); }
+whole=$run
+run="limited ${RUN:-}"
+good "$two" 2 '5 6 7 8 +9\n5 6 7 9 -9\n'
+printf '1 1 1 1 1\n' > "$dir/long.log"
+dd if=/dev/null of="$dir/long.log" bs=1 seek=1000000000 2> /dev/null
+wrong 'long.log: can.t be read to the end: Cannot allocate memory' "$dir/long.log"
+run=$whole
 
 # the library's own limit: 1048576 updates are taken, one more is refused with 2
 awk 'BEGIN { for (i = 0; i < 1048576; i++) print i % 1000, 1, 1, 1, 1 }' > "$dir/limit.log"

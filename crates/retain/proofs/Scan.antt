@@ -9,6 +9,8 @@ use lib.ListN.{length, take, drop, set, replicate, length-append, take-append-dr
 use lib.Seq.{take-suc-set, drop-set-lt, drop-drop, length-take-le}
 use borrow.Author.Tests.{ltb-true, ltb-false, eqb-true, eqb-false, lt-ltb, le-leb, lt-leb}
 use Rattle.chunk.specs.Entry.{tick, keep}
+use Rattle.chunk.specs.Time.{earlier}
+use Rattle.chunk.proofs.Tests.{earlier-is-less}
 use Rattle.laws.proofs.Tests.{by-test, and-left, and-right, and-both, and-false, true-not-false}
 use Rattle.retain.specs.declared.Least.{Least}
 use Rattle.retain.specs.declared.Corners.{Corners}
@@ -71,8 +73,8 @@ module _ (upper : List ℕ) (limit : ℕ) where
       (λ k. let u : under (t ∷ ts) ≡ t ∷ under ts = under-in t ts k in
       let tl : ltb (tick t) limit ≡ true = and-left _ _ k in
       let op : isOpen upper t ≡ true = and-right (ltb (tick t) limit) _ k in
-      by-test (ltb t best)
-      (λ b. let tb : t < best = ltb-true _ _ b in
+      by-test (earlier t best)
+      (λ b. let tb : t < best = ltb-true _ _ (earlier-is-less t best ∙ b) in
       let ih : Best ts t (leastFrom upper limit ts true t) = best-of ts t in
       simp (tl, op, b) (record {
         found = ih .found;
@@ -80,7 +82,7 @@ module _ (upper : List ℕ) (limit : ℕ) where
         least = λ x h. has-split x t (under ts) _ (simp u at h) (λ e. omega (arith, ih .most)) (λ g. ih .least x g);
         among = λ h. rw u (among-cons _ t (under ts) (ih .among));
       }))
-      (λ b. let tb : best ≤ t = ltb-false _ _ b in
+      (λ b. let tb : best ≤ t = ltb-false _ _ (earlier-is-less t best ∙ b) in
       let ih : Best ts best (leastFrom upper limit ts true best) = best-of ts best in
       simp (tl, op, b) (record {
         found = ih .found;

@@ -4,6 +4,7 @@ use mathlib.Core.Path.{_≡_, refl, sym, _∙_, ap}
 use mathlib.Core.Bool.{Bool, true, false, cond, not, _&&_}
 use mathlib.Core.List.{List, [], _∷_}
 use native.Mathlib.Omega.{arith}
+use mir.Val.{boolByte}
 use lib.Dec.{ltb, leb, eqb}
 use lib.ListN.{length, getD}
 use borrow.Author.Tests.{eqb-true, eqb-false, ltb-true, ltb-false, leb-true, leb-false, le-leb, lt-leb}
@@ -116,6 +117,12 @@ times-most n p b e =
     let q : n * p ≡ cond b n 0 = ap (λ (x : ℕ). n * x) e ∙ times-bit n b in
     by-test b (λ k. let z : n * p ≡ n = simp k at q in omega arith) (λ k. let z : n * p ≡ 0 = simp k at q in omega arith)
 
+-- a test as a number is its bit
+byte-bit : (b : Bool) → boolByte b ≡ bit b
+unfolding bit
+byte-bit true = refl
+byte-bit false = refl
+
 -- one half of a time at or below another
 pub half-bit : (a b : ℕ) → a < 2 ^ 32 → b < 2 ^ 32 → (b + 4294967296 - a) / 4294967296 ≡ bit (leb a b)
 unfolding bit
@@ -185,17 +192,15 @@ module _ (corners : List ℕ) (t : ℕ) (o : ordered corners ≡ true) where
         let y : at ≡ 0 = by-test (ltb 0 at) (λ j. let x = w .early (ltb-true _ _ j) in absurd (omega arith)) (λ j. let x : at ≤ 0 = ltb-false _ _ j in omega arith) in
         let z : at + past ≡ 0 = (let q : past ≡ 0 = simp k at e in omega arith) in rw z (part-none l))
 
-    pub open-by : (right below : ℕ) → right ≡ bit (leb (ignition (getD corners at 0)) (ignition t)) → below ≡ bit (leb (tick (getD corners at 0)) (tick t))
-        → right * below ≡ bit (isOpen corners t)
-    unfolding bit
-    open-by right below e f =
+    -- by it alone, whether a time is open
+    open-at : atOrBelow (getD corners at 0) t ≡ isOpen corners t
+    open-at =
         by-test (leb (ignition (getD corners at 0)) (ignition t))
-        (λ k. let q : right ≡ 1 = simp k at e in
-        let z : right * below ≡ below = ap (λ (x : ℕ). x * below) q ∙ omega arith in
-        z ∙ f ∙ ap bit (open-last corners t at o (part-here (leb-true _ _ k))))
-        (λ k. let q : right ≡ 0 = simp k at e in
-        let z : right * below ≡ 0 = ap (λ (x : ℕ). x * below) q ∙ omega arith in
-        z ∙ ap bit (open-none corners t (part-none (leb-false _ _ k))))
+        (λ k. simp k (open-last corners t at o (part-here (leb-true _ _ k))))
+        (λ k. simp k (open-none corners t (part-none (leb-false _ _ k))))
+
+    pub open-by : (below : Bool) → below ≡ atOrBelow (getD corners at 0) t → boolByte below ≡ bit (isOpen corners t)
+    open-by below e = byte-bit below ∙ ap bit (e ∙ open-at)
 
 -- under no corners nothing is open
 pub open-empty : (corners : List ℕ) (t : ℕ) → length corners ≡ 0 → 0 ≡ bit (isOpen corners t)

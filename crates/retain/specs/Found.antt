@@ -8,7 +8,7 @@ use mathlib.Core.List.{List, [], _∷_}
 use lib.Dec.{ltb, leb}
 use lib.ListN.{length, take, getD}
 use Rattle.chunk.specs.Entry.{ignition, tick, keep}
-use Rattle.chunk.specs.Time.{atOrBelow}
+use Rattle.chunk.specs.Time.{earlier, atOrBelow}
 use Rattle.retain.specs.declared.Frontier.{Frontier}
 use Rattle.retain.specs.declared.Least.{Least}
 use Rattle.retain.specs.declared.Corners.{Corners}
@@ -23,9 +23,9 @@ frontierWith corners = record { count = length corners; corners = places corners
 abbrev pub emptyFrontier : Frontier
 emptyFrontier = frontierWith []
 
--- whether an open time with a tick below the limit is less than the best so far
+-- whether an open time with a tick below the limit sorts before the best so far
 abbrev pub betterThan : List ℕ → ℕ → Bool → ℕ → ℕ → Bool
-betterThan corners limit found best t = ltb (tick t) limit && ((not found || ltb t best) && isOpen corners t)
+betterThan corners limit found best t = ltb (tick t) limit && ((not found || earlier t best) && isOpen corners t)
 
 -- the best of the times that are left
 unfoldable pub leastFrom : List ℕ → ℕ → List ℕ → Bool → ℕ → Least

@@ -6,6 +6,7 @@ ghost use Prim.Native.Nat.{_+_, _-_, _≤_, _<_};
 ghost use lib.ListN.{length, take, drop, replicate};
 ghost use Rattle.retain.specs.Frontier.{isOpen, ordered};
 ghost use Rattle.retain.specs.Found.{Before, Passed, Standing, Joined};
+use crate::Frontier;
 use crate::look::place_of;
 
 // Where a time belongs that no corner is at or below: behind the corners of a lower ignition.
@@ -89,7 +90,7 @@ pub(crate) fn add_corner(corners: &mut [u64], count: usize, t: u64) -> usize
         return count - gone;
     }
     let top = count + 1;
-    if 128 < top {
+    if Frontier::MOST < top {
         return top;
     }
     shift_up(&mut corners[at..top], t);

@@ -59,9 +59,8 @@ pub(crate) fn open_bit(corners: &[u64], t: u64) -> u64
     }
     let at = last_at(corners, t);
     let corner = corners[at];
-    let right = not_above(corner / 0x1_0000_0000, t / 0x1_0000_0000);
-    let below = not_above(corner % 0x1_0000_0000, t % 0x1_0000_0000);
-    right * below
+    let below = chunk::at_or_below(corner, t);
+    below as u64
 }
 
 // Whether some corner is at or below a time.

@@ -9,7 +9,7 @@ use crate::Frontier;
 use crate::Least;
 use crate::look::is_open;
 
-// Of the open times with a tick below `limit`, the one least in number.
+// Of the open times with a tick below `limit`, the one that sorts first.
 fn least_open(times: &[u64], corners: &[u64], limit: u64) -> Least
     requires { ⌜ ordered (now corners) ≡ true ⌝ }
     ensures { λ r. ⌜ r ≡ leastFrom (now (corners .entry)) limit (now (times .entry)) false 0 ⌝ }
@@ -28,7 +28,7 @@ fn least_open(times: &[u64], corners: &[u64], limit: u64) -> Least
     Least { found, time: best }
 }
 
-// Whether an open time with a tick below `limit` is less than the best so far.
+// Whether an open time with a tick below `limit` sorts before the best so far.
 fn better(corners: &[u64], limit: u64, found: bool, best: u64, time: u64) -> bool
     requires { ⌜ ordered (now corners) ≡ true ⌝ }
     ensures { λ r. ⌜ r ≡ betterThan (now (corners .entry)) limit found best time ⌝ }
@@ -39,7 +39,7 @@ fn better(corners: &[u64], limit: u64, found: bool, best: u64, time: u64) -> boo
     if !found {
         return is_open(corners, time);
     }
-    if best <= time {
+    if !chunk::sorts_before(time, best) {
         return false;
     }
     is_open(corners, time)

@@ -1,5 +1,5 @@
 -- The seven bodies of a chunk, from its entries.
-use Rattle.std.specs.Prelude.{ℕ, suc, ◌+◌, Bool, cond, List, [], ◌∷◌, ◌++◌, map, eqb, length}
+use Rattle.std.specs.Prelude.{ℕ, suc, Bool, cond, List, [], ◌∷◌, ◌++◌, map, eqb, length}
 use Rattle.chunk.specs.Entry.{Entry, same_list, stands, keep}
 
 -- the last entry of each key, and of each value: where a list is closed

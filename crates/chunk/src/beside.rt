@@ -7,7 +7,7 @@ ghost use Rattle.chunk.specs.Words.{rises, ends_rise, lists};
 use crate::{ends_rise, fall_of, falls_at, part_end, steps};
 
 // What a look over times finds: how many of them are falls, the first counted as one; whether the changes beside them hold; and how many diffs have ended.
-#[derive(Drop)]
+#[derive(Clone, Copy)]
 struct Seen {
     fell: usize,
     good: bool,

@@ -1,3 +1,5 @@
+#![tactic(auto)]
+
 ghost use Rattle.std.specs.Prelude.{◌≡◌, suc, ◌≤◌, ◌<◌, ◌^◌, true, ◌&&◌, ◌||◌, eqb, length};
 ghost use Rattle.chunk.specs.Contents.{contents_of, layout_of, no_contents, layout_within, with_table, child_range, Placed};
 ghost use Rattle.chunk.specs.Time.{earlier, at_or_below};
@@ -13,7 +15,7 @@ use beside::times_hold;
 mod beside;
 
 // What the contents table says: the four counts, where each body starts, and the chunk's size.
-#[derive(Drop)]
+#[derive(Clone, Copy)]
 pub struct Contents {
     pub fits: bool,
     pub nk: usize,
@@ -31,14 +33,14 @@ pub struct Contents {
 }
 
 // The items of one list: from `lower` to `upper`, which is excluded.
-#[derive(Drop)]
+#[derive(Clone, Copy)]
 pub struct Range {
     pub lower: usize,
     pub upper: usize,
 }
 
 // What `check` answers: 0 with the contents and whether every time has its diff, or 5 with all else zero.
-#[derive(Drop)]
+#[derive(Clone, Copy)]
 pub struct Checked {
     pub number: u64,
     pub settled: bool,

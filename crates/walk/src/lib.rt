@@ -1,3 +1,5 @@
+#![tactic(auto)]
+
 ghost use Rattle.std.specs.Prelude.{◌≡◌, true, ◌+◌, ◌≤◌, ◌<◌, length, get_or};
 ghost use Rattle.chunk.specs.Words.{body, val_end_body, time_end_body, diff_end_body};
 ghost use Rattle.chunk.specs.Contents.{Placed};
@@ -5,7 +7,7 @@ ghost use Rattle.walk.specs.Walk.{next_key, to_key, next_val, to_val, next_time,
 ghost use Rattle.walk.specs.Answer.{first_with, started_of, place_of, reached_by, record_of, stepped_by};
 
 // The four indices of a walk, and the ends of the lists that the last three stand in.
-#[derive(Drop)]
+#[derive(Clone, Copy)]
 pub struct Walker {
     pub k: u64,
     pub v: u64,
@@ -17,7 +19,7 @@ pub struct Walker {
 }
 
 // One record of a chunk.
-#[derive(Drop)]
+#[derive(Clone, Copy)]
 pub struct Record {
     pub key: u64,
     pub val: u64,
@@ -26,14 +28,14 @@ pub struct Record {
 }
 
 // What a start answers: 0 and the walker, or 5 with all else zero.
-#[derive(Drop)]
+#[derive(Clone, Copy)]
 pub struct Started {
     pub number: u64,
     pub walker: Walker,
 }
 
 // What a step answers: a record and the walker past it; that there is none left; or 5, and the walker is as it was.
-#[derive(Drop)]
+#[derive(Clone, Copy)]
 pub enum Stepped {
     Gave(Record, Walker),
     Done,
@@ -41,7 +43,7 @@ pub enum Stepped {
 }
 
 // Where the moves of a step lead, or that one must read past the end of a body.
-#[derive(Drop)]
+#[derive(Clone, Copy)]
 enum Reached {
     At(Walker),
     Past,

@@ -1,11 +1,13 @@
 // A walker that the caller lends, started and advanced in place. Each of the two is thin over a covered function that takes the
 // walker by value and always hands one back, so that nothing is decided behind the reference.
+#![tactic(auto)]
+
 ghost use Rattle.std.specs.Prelude.{◌≡◌};
 ghost use Rattle.walk.specs.Answer.{started_of};
 ghost use Rattle.walker.specs.Lent.{stepped_from, taken_of, walker_after, advanced_to, walker_from, begun_at};
 
 // What a step says: a record; that there is none left; or 5.
-#[derive(Drop)]
+#[derive(Clone, Copy)]
 pub enum Taken {
     Gave(walk::Record),
     Done,
@@ -13,14 +15,14 @@ pub enum Taken {
 }
 
 // The walker after a step, and what the step says.
-#[derive(Drop)]
+#[derive(Clone, Copy)]
 pub struct Advanced {
     pub walker: walk::Walker,
     pub taken: Taken,
 }
 
 // The walker after a start, and 0 or 5.
-#[derive(Drop)]
+#[derive(Clone, Copy)]
 pub struct Begun {
     pub walker: walk::Walker,
     pub number: u64,

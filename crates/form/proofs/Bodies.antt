@@ -1,6 +1,6 @@
 -- The seven bodies of a chunk are the runs that the stores leave: keys and the ends of their lists go by key, values and the ends of
 -- theirs by key and value, times and diffs by entry.
-use Rattle.std.proofs.Common.{◌≡◌, ℕ, suc, ◌+◌, ◌-◌, Bool, true, false, cond, not, ◌&&◌, ◌||◌, eqb, List, [], ◌∷◌, map, sym, refl, ap, ◌∙◌, arith, ne_eqb, eqb-true}
+use Rattle.std.proofs.Common.{◌≡◌, ℕ, suc, ◌+◌, Bool, true, false, cond, not, ◌&&◌, ◌||◌, eqb, List, [], ◌∷◌, map, sym, refl, ap, ◌∙◌, arith, ne_eqb, eqb-true}
 use Rattle.chunk.specs.Entry.{Entry, same_list, stands, keep, every}
 use Rattle.chunk.specs.Bodies.{lasts_of, same_key, keys, vals, times, diffs, ends_of, val_ends, time_ends, diff_ends_from, diff_ends}
 use Rattle.laws.proofs.Tests.{by_test, and_left, and_right}

@@ -1,6 +1,6 @@
 -- What is left of a pass: the whole answer is the answer on the updates that are left, with the pending one in front.
 -- Each law unfolds a definition by one update, or ends it.
-use Rattle.std.proofs.Common.{◌≡◌, ℕ, suc, ◌+◌, ◌-◌, ◌^◌, ◌<◌, ◌≤◌, Bool, true, false, ◌&&◌, ◌||◌, List, [], ◌∷◌, length, get_or, drop, ℤ, sym, refl, ap, ◌∙◌, zero-le, add-one, arith, length-drop, drop-cons, w64, of_z, le-ltb}
+use Rattle.std.proofs.Common.{◌≡◌, ℕ, suc, ◌+◌, ◌^◌, ◌<◌, ◌≤◌, Bool, true, false, ◌&&◌, ◌||◌, List, [], ◌∷◌, length, get_or, drop, ℤ, sym, refl, ap, ◌∙◌, zero-le, add-one, arith, length-drop, drop-cons, w64, of_z, le-ltb}
 use native.Mathlib.Numerals.{add-two, add-three, add-four}
 use mir.ValLaws.{of_z-to_z}
 use lib.IntN.{+ℤ_idl}
@@ -113,8 +113,12 @@ pub falls-turn : (a b : Entry) (es : List Entry) → falls (a ∷ b ∷ es) ≡ 
 unfolding falls
 falls-turn a b es =
     by_test (same a b)
-    (λ (s : same a b ≡ true). rw s (ap (λ (t : Bool). before b a || t) (sym (falls-same (joined a b) b es s))))
-    (λ (s : same a b ≡ false). rw s)
+    (λ (s : same a b ≡ true).
+    let n : next_pending a b ≡ joined a b = rw s in
+    ap (λ (t : Bool). before b a || t) (sym (falls-same (joined a b) b es s)) ∙ ap (λ (e : Entry). before b a || falls (e ∷ es)) (sym n))
+    (λ (s : same a b ≡ false).
+    let n : next_pending a b ≡ b = rw s in
+    ap (λ (e : Entry). before b a || falls (e ∷ es)) (sym n))
 
 and_assoc : (a b d : Bool) → (a && (b && d)) ≡ ((a && b) && d)
 and_assoc true b d = refl

@@ -1,6 +1,6 @@
 -- One body of a chunk as the stores leave it. A body has a place for each list that is open or closed: an entry either stores over the
 -- last place, which is its list's still, or moves on to the next one. So what is left at the end is one word for each list: a run.
-use Rattle.std.proofs.Common.{◌≡◌, ℕ, suc, ◌+◌, ◌-◌, ◌≤◌, Bool, true, false, cond, List, [], ◌∷◌, ◌++◌, length, drop, set, sym, refl, ap, ◌∙◌, arith, length-append, length-drop}
+use Rattle.std.proofs.Common.{◌≡◌, ℕ, suc, ◌+◌, ◌≤◌, Bool, true, false, cond, List, [], ◌∷◌, ◌++◌, length, drop, set, sym, refl, ap, ◌∙◌, arith, length-append, length-drop}
 use lib.Seq.{set_at, append_snoc}
 use Rattle.chunk.specs.Entry.{Entry}
 use Rattle.laws.proofs.Tests.{by_test}

@@ -1,5 +1,5 @@
 -- What `form_unsorted` answers, from the tests on the way: the refusals in their order, and the chunk of the sorted updates.
-use Rattle.std.proofs.Common.{◌≡◌, ℕ, zero, suc, ◌+◌, ◌/◌, ◌<◌, ◌≤◌, true, false, not, List, [], ◌∷◌, ◌++◌, length, sym, refl, ap, ◌∙◌, arith, eq-eqb}
+use Rattle.std.proofs.Common.{◌≡◌, ℕ, zero, suc, ◌/◌, ◌<◌, ◌≤◌, true, false, not, List, [], ◌∷◌, ◌++◌, length, sym, refl, ap, ◌∙◌, arith, eq-eqb}
 use Rattle.chunk.specs.Words.{over}
 use Rattle.chunk.specs.Entry.{Entry, every}
 use Rattle.chunk.specs.Bodies.{chunk_of}

@@ -4,6 +4,8 @@
 // each finished entry into the seven bodies of the chunk, whose places the counts give. Both passes hold one pending update, to
 // which every update at its position is added, and which is done when another position comes. In the first pass no branch depends
 // on the updates.
+#![tactic(auto)]
+
 ghost use Rattle.std.specs.Prelude.{◌≡◌, ◌+◌, ◌^◌, ◌<◌, true, ◌&&◌, length, if◌then◌else◌};
 ghost use Rattle.chunk.specs.Entry.{before, same, every};
 ghost use Rattle.chunk.specs.Bodies.{chunk_of};
@@ -18,7 +20,7 @@ use sort::sort_updates;
 use std::num::wrapping_add_u64;
 
 // One update: a position and its change.
-#[derive(Drop)]
+#[derive(Clone, Copy)]
 struct Update {
     key: u64,
     val: u64,
@@ -27,7 +29,7 @@ struct Update {
 }
 
 // How many keys, values and times there are.
-#[derive(Drop)]
+#[derive(Clone, Copy)]
 struct Sizes {
     nk: usize,
     nv: usize,
@@ -36,7 +38,7 @@ struct Sizes {
 
 // The first pass on its way: how much is done, the update that is pending, and whether an entry with its key, and one with its key
 // and value, is among what is done.
-#[derive(Drop)]
+#[derive(Clone, Copy)]
 struct Tally {
     sizes: Sizes,
     pending: Update,
@@ -45,14 +47,14 @@ struct Tally {
 }
 
 // What the first pass finds: a refusal's number, or 0 and the sizes.
-#[derive(Drop)]
+#[derive(Clone, Copy)]
 struct Found {
     number: u64,
     sizes: Sizes,
 }
 
 // The keys, values and times so far, and the entry that was counted last.
-#[derive(Drop)]
+#[derive(Clone, Copy)]
 struct Counts {
     nk: usize,
     nv: usize,
@@ -61,7 +63,7 @@ struct Counts {
 }
 
 // The second pass on its way: what is done, and the update that is pending.
-#[derive(Drop)]
+#[derive(Clone, Copy)]
 struct Consolidating {
     counts: Counts,
     pending: Update,

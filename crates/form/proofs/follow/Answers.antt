@@ -1,12 +1,11 @@
 -- `form::follow` meets its contract: the machine's sum of two diff words is the word of the sum, and of one word and 0 that word.
-use Rattle.std.proofs.Common.{◌≡◌, ℕ, ◌+◌, ◌%◌, ◌^◌, ◌<◌, Bool, true, false, cond, sym, ap, ◌∙◌, arith, rules}
+use Rattle.std.proofs.Common.{◌≡◌, ℕ, ◌+◌, ◌%◌, ◌^◌, ◌<◌, Bool, true, false, cond, sym, ap, ◌∙◌, arith}
 use Rattle.chunk.specs.Entry.{Entry, same}
 use Rattle.chunk.specs.Sums.{with_diff}
 use Rattle.laws.proofs.Order.{Same, same_parts}
 use Rattle.laws.proofs.Wrap.{plus_wraps}
 use Rattle.form.specs.Pass.{entry_of, next_pending}
-use Rattle.form.proofs.follow.Statement.{statement}
-use Rattle.form.proofs.follow.Tie as tie
+use Rattle.form.proofs.follow.Goals as goal
 
 summed : (a b : Entry) (t : Bool) (s : ℕ) → a.diff < 2 ^ 64 → b.diff < 2 ^ 64 → t ≡ same a b → s ≡ (cond t a.diff 0 + b.diff) % 2 ^ 64 → with_diff b s ≡ next_pending a b
 summed a b true s k l h q =
@@ -15,17 +14,8 @@ summed a b true s k l h q =
     rw (sym h) (λ i. record { key = sym m.key i; val = sym m.val i; time = sym m.time i; diff = d i })
 summed a b false s k l h q = let d : s ≡ b.diff = omega arith in rw (sym h) (ap (λ (n : ℕ). with_diff b n) d)
 
-word-if-requires : tie.Need-word-if-requires
-word-if-requires c κs = search rules
-
-wrapping-add-u64-requires : tie.Need-wrapping-add-u64-requires
-wrapping-add-u64-requires c κs = search rules
-
-returns : tie.Need-returns
+pub returns : goal.returns
 returns c =
-    let g = c.before.before.args in
-    summed (entry_of g.a) (entry_of g.b) g.alike c.wrapping-add-u64.result (omega arith) (omega arith) c.before.before.requires
-    (c.wrapping-add-u64.ensures ∙ ap (λ (n : ℕ). (n + g.b.diff) % 2 ^ 64) c.before.word-if.ensures)
-
-pub follow_spec : {M : Type 1} → statement M
-follow_spec = tie.close (tie.spec word-if-requires wrapping-add-u64-requires returns)
+    let g = c.args in
+    summed (entry_of g.a) (entry_of g.b) g.alike c.wrapping_add_u64.result (omega arith) (omega arith) c.requires
+    (c.wrapping_add_u64.ensures.value ∙ ap (λ (n : ℕ). (n + g.b.diff) % 2 ^ 64) c.word_if.ensures)

@@ -3,8 +3,7 @@ use Rattle.std.proofs.Common.{◌≡◌, ℕ, ◌/◌, ◌%◌, ◌<◌, ◌≤�
 use Rattle.chunk.specs.Words.{limit}
 use Rattle.chunk.specs.Refusal.{first}
 use Rattle.form.specs.Pass.{count_number}
-use Rattle.form.proofs.miscounted.Statement.{statement}
-use Rattle.form.proofs.miscounted.Tie as tie
+use Rattle.form.proofs.miscounted.Goals as goal
 
 part_of_one : (n : ℕ) → (n % 4 ≡ 0 → ⊥) → 1 ≡ count_number n
 unfolding count_number first
@@ -18,14 +17,11 @@ well_counted : (n : ℕ) → n % 4 ≡ 0 → n / 4 ≤ limit → 0 ≡ count_num
 unfolding count_number first
 well_counted n h k = simp (eq-eqb _ _ h, le-ltb limit (n / 4) k)
 
-returns : tie.Need-returns
-returns c = part_of_one c.before.args.words c.if1.true
+pub returns-then-words-ne0 : goal.returns-then-words-ne0
+returns-then-words-ne0 c = part_of_one c.args.words c.if-words-ne0.true
 
-returns-2 : tie.Need-returns-2
-returns-2 c = too_many c.before.before.args.words c.before.if1.false c.if2.true
+pub returns-then-words-gt-LIMIT : goal.returns-then-words-gt-LIMIT
+returns-then-words-gt-LIMIT c = too_many c.args.words c.if-words-ne0.false c.if-words-gt-LIMIT.true
 
-returns-3 : tie.Need-returns-3
-returns-3 c = well_counted c.before.before.args.words c.before.if1.false c.if2.false
-
-pub miscounted_spec : {M : Type 1} → statement M
-miscounted_spec = tie.close (tie.spec returns returns-2 returns-3)
+pub returns : goal.returns
+returns c = well_counted c.args.words c.if-words-ne0.false c.if-words-gt-LIMIT.false

@@ -4,7 +4,7 @@ use lib.ListN.{length-map}
 use Rattle.chunk.specs.declared.Contents.{Contents}
 use Rattle.chunk.specs.Entry.{Entry, same_list}
 use Rattle.chunk.specs.Bodies.{chunk_of, lasts_of, same_key, keys, vals, times, diffs, val_ends, time_ends, diff_ends}
-use Rattle.chunk.specs.Words.{body, over, size, nk, nv, nt, nd, table_size, limit}
+use Rattle.chunk.specs.Words.{body, over, table_size, limit}
 use Rattle.chunk.specs.Contents.{layout_of, layout_within, with_table, table_of}
 use Rattle.meld.specs.declared.Seam.{Seam}
 use Rattle.meld.specs.Copy.{gone, placed_in}

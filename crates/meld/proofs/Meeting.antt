@@ -2,7 +2,7 @@
 use Rattle.std.proofs.Common.{◌≡◌, ℕ, suc, ◌-◌, ◌≤◌, Bool, true, false, cond, ◌||◌, eqb, ltb, List, [], ◌∷◌, map, length, get_or, sym, refl, ◌∙◌, arith, le-ltb, eq-eqb, ne_eqb, eqb-true}
 use Rattle.laws.proofs.Tests.{by_test, and_right}
 use Rattle.chunk.specs.Entry.{Entry, before, same_list}
-use Rattle.chunk.specs.Bodies.{lasts_of, same_key, keys, vals}
+use Rattle.chunk.specs.Bodies.{lasts_of, same_key}
 use Rattle.chunk.specs.Words.{head_or_0}
 use Rattle.meld.specs.declared.Position.{Position}
 use Rattle.meld.specs.declared.Seam.{Seam}

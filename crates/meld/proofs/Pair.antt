@@ -4,7 +4,7 @@ use Rattle.chunk.specs.declared.Contents.{Contents}
 use Rattle.chunk.specs.declared.Checked.{Checked}
 use Rattle.chunk.specs.Check.{checked_of}
 use Rattle.chunk.specs.Bodies.{keys, vals, times, diffs}
-use Rattle.chunk.specs.Words.{well_formed, entries, size, nt, limit}
+use Rattle.chunk.specs.Words.{well_formed, entries, nt, limit}
 use Rattle.chunk.specs.Contents.{contents_of, layout_of}
 use Rattle.chunk.proofs.Placed.{placed}
 use Rattle.chunk.proofs.WellFormed.{parts}

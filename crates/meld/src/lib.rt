@@ -1,5 +1,7 @@
 // Meld: a second chunk written behind a first, by ranges. Each body of the output is the first chunk's, without the list that goes on in
 // the second, and behind it the second's, its ends gone up by what stands before. No record is read but the two at the seam.
+#![tactic(auto)]
+
 ghost use Rattle.std.specs.Prelude.{◌≡◌, ◌+◌, ◌++◌, length, nat_le};
 ghost use Rattle.chunk.specs.Words.{body, entries, head_or_0, limit};
 ghost use Rattle.meld.specs.Copy.{copied, shifted_all, counted_on, gone, placed_in};
@@ -9,7 +11,7 @@ ghost use Rattle.meld.specs.Accepted.{refusal_of};
 ghost use Rattle.meld.specs.Laid.{Counted, upper_laid, lower_laid, laid};
 
 // A truck, a fault and a time.
-#[derive(Drop)]
+#[derive(Clone, Copy)]
 struct Position {
     key: u64,
     val: u64,
@@ -17,7 +19,7 @@ struct Position {
 }
 
 // How two chunks meet: whether the second starts past the first's end, and how many keys and values they share, 0 or 1.
-#[derive(Drop)]
+#[derive(Clone, Copy)]
 struct Seam {
     follows: bool,
     keys: usize,

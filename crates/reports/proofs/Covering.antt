@@ -194,7 +194,9 @@ words_read (r ∷ rs) pre rest =
     let n : length (pre ++ words_of r) ≡ length pre + 3 = length-append pre (words_of r) ∙ ap (λ (k : ℕ). length pre + k) (words_three r) in
     let a : (pre ++ words_of r) ++ (report_words rs ++ rest) ≡ pre ++ (words_of r ++ (report_words rs ++ rest)) = append_assoc pre (words_of r) (report_words rs ++ rest) in
     let b : words_of r ++ report_words rs ++ rest ≡ words_of r ++ (report_words rs ++ rest) = append_assoc (words_of r) (report_words rs) rest in
-    rw b (λ i. report_words_lem r (report_words rs ++ rest) pre i ∷ (rw (a, n) at ih) i)
+    let g : reports_at (pre ++ (words_of r ++ (report_words rs ++ rest))) (length pre) (suc (length rs)) ≡ r ∷ rs =
+    λ i. report_words_lem r (report_words rs ++ rest) pre i ∷ (rw (a, n) at ih) i in
+    ap (λ (ws : List ℕ). reports_at (pre ++ ws) (length pre) (suc (length rs))) b ∙ g
 
 -- reports placed at a place are the reports there
 pub placed_read : (at : ℕ) (rs : List Report) (s : List ℕ) → at ≤ length s → reports_at (placed at (report_words rs) s) at (length rs) ≡ rs

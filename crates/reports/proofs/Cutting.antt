@@ -59,7 +59,7 @@ module _ (same : Entry → Entry → Bool) where
           by_test (same a b)
           (λ p. record { index = rw (p, e) f.index; within = rw (p, e) f.within })
           (λ p. let u : ltb (suc n) (suc n + suc t) ≡ true = lt-ltb (suc n) (suc n + suc t) (omega arith) in
-          record { index = rw (p, e, u) (ap suc f.index); within = rw (p, e, u) (omega (arith, f.within)) })
+          record { index = simp (p, e, u) (ap suc f.index); within = simp (p, e, u) (omega (arith, f.within)) })
 
   -- the lasts up to an index, and those lists of the whole, say the same of what is alike within a list
   pub lasts_alike {ℓ} : {A : Type ℓ} (f : Entry → A) → ((a b : Entry) → same a b ≡ true → f a ≡ f b) → (n t : ℕ) (es : List Entry) → t < length es
@@ -77,7 +77,7 @@ module _ (same : Entry → Entry → Bool) where
       let e : n + suc (suc t) ≡ suc n + suc t = omega arith in
       by_test (same a b)
       (λ p. rw (p, e) ih)
-      (λ p. let u : ltb (suc n) (suc n + suc t) ≡ true = lt-ltb (suc n) (suc n + suc t) (omega arith) in rw (p, e, u) (ap (λ l. f a ∷ l) ih))
+      (λ p. let u : ltb (suc n) (suc n + suc t) ≡ true = lt-ltb (suc n) (suc n + suc t) (omega arith) in simp (p, e, u) (ap (λ l. f a ∷ l) ih))
 
 -- ---- keys over values
 

@@ -8,6 +8,7 @@ use lib.Dec.{eqb}
 use lib.ListN.{length, drop}
 use lib.IntN.{ℤ, pos, ◌+ℤ◌, +ℤ_comm, +ℤ_assoc, +ℤ_idl}
 use borrow.Author.Tests.{lt-ltb, eq-eqb, ltb-true, not-true, not-false}
+use mir.Syntax.{w64}
 use mir.Facts.{to_z-of_z}
 use Rattle.chunk.specs.Entry.{Entry, before, same, rising, rising_from, every, keep, change}
 use Rattle.chunk.specs.Sums.{plus, sum_fits, total}
@@ -247,7 +248,7 @@ total-append k v t (e ∷ es) fs =
 
 -- a sum that fits is read back
 sum_read : (x y : ℕ) → sum_fits x y ≡ true → change (plus x y) ≡ change x +ℤ change y
-sum_read x y h = to_z-of_z {z = change x +ℤ change y} (record { sfits = ltb-true _ _ h })
+sum_read x y h = to_z-of_z {w = w64} {z = change x +ℤ change y} (record { sfits = ltb-true _ _ h })
 
 summed-says : (k v t : ℕ) (a b : Entry) → same a b ≡ true → sum_fits a.diff b.diff ≡ true
     → says k v t (summed a b) ≡ says k v t a +ℤ says k v t b

@@ -1,5 +1,4 @@
 -- Two rising lists walked side by side: the steps, induction along them, and that the walk to the end of both is `union`.
-use Prim.Native.Nat.{◌+◌}
 use mathlib.Core.Path.{◌≡◌, refl, sym, ◌∙◌, ap}
 use mathlib.Core.Bool.{Bool, true}
 use mathlib.Core.List.{List, [], ◌∷◌}

@@ -1,5 +1,5 @@
 -- A settled chunk with its contents; and the bodies of a chunk, by the layers that they are written in.
-use Rattle.std.specs.Prelude.{ℕ, ◌+◌, true, ◌≡◌, List, ◌++◌, length}
+use Rattle.std.specs.Prelude.{ℕ, true, ◌≡◌, List, ◌++◌, length}
 use Rattle.chunk.specs.Entry.{Entry}
 use Rattle.chunk.specs.Bodies.{keys, val_ends, vals, time_ends, times, diff_ends, diffs}
 use Rattle.chunk.specs.Contents.{layout_of}

@@ -1,5 +1,5 @@
 -- Which entries are picked by each rule: those that stand, the open ones, the others.
-use Prim.Native.Nat.{ℕ, suc, ◌-◌}
+use Prim.Native.Nat.{ℕ, suc}
 use mathlib.Core.Path.{◌≡◌, refl, sym, ◌∙◌}
 use mathlib.Core.Bool.{Bool, true, false, not, ◌&&◌}
 use mathlib.Core.List.{List, [], ◌∷◌}

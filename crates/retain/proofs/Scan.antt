@@ -14,7 +14,7 @@ use Rattle.chunk.proofs.Tests.{earlier_is_less}
 use Rattle.laws.proofs.Tests.{by_test, and_left, and_right, and_both, and-false, true-not-false}
 use Rattle.retain.specs.declared.Least.{Least}
 use Rattle.retain.specs.declared.Corners.{Corners}
-use Rattle.retain.specs.Frontier.{any, is_open, least_of, most, places}
+use Rattle.retain.specs.Frontier.{any, is_open, least_of, places}
 use Rattle.retain.specs.Found.{least_from, better_than, corners_of, corners_as}
 use Rattle.retain.proofs.Alone.{has, has-keep, least_cons}
 

@@ -1,6 +1,6 @@
 -- The core of filter and extract (document 01: "Times without a diff go, then values and keys left without children"):
 -- what is written of each layer once times are filtered. Which times are filtered out is a test on their index.
-use Rattle.std.specs.Prelude.{ℕ, zero, suc, ◌+◌, ◌<◌, ◌≤◌, ◌≡◌, Bool, true, cond, List, [], ◌∷◌, ◌++◌, ltb, length, get_or}
+use Rattle.std.specs.Prelude.{ℕ, zero, suc, ◌<◌, ◌≤◌, ◌≡◌, Bool, true, cond, List, [], ◌∷◌, ◌++◌, ltb, length, get_or}
 use Rattle.chunk.specs.Words.{limit}
 use Rattle.chunk.specs.Contents.{start_of, table_of}
 use Rattle.laws.specs.Picked.{count_kept, count_up, nodes, item_of, end_of, list_kept, Over}

@@ -1,3 +1,5 @@
+#![tactic(auto)]
+
 ghost use Rattle.std.specs.Prelude.{◌≡◌, true, false, ◌+◌, ◌-◌, ◌*◌, ◌≤◌, length, []};
 ghost use Rattle.retain.specs.Frontier.{is_open, ordered, sound};
 ghost use Rattle.retain.specs.Found.{empty_frontier, kept_by};
@@ -27,7 +29,7 @@ mod sides;
 mod stay;
 
 // Which times that have a diff stay: every one, those open under the corners, the others.
-#[derive(Drop)]
+#[derive(Clone, Copy)]
 pub enum Keep {
     All,
     Open,
@@ -35,14 +37,14 @@ pub enum Keep {
 }
 
 // How many keys and values are left.
-#[derive(Drop)]
+#[derive(Clone, Copy)]
 pub struct Lists {
     pub keys: usize,
     pub vals: usize,
 }
 
 // How many keys and values are left with an open time, and how many with one that isn't.
-#[derive(Drop)]
+#[derive(Clone, Copy)]
 pub struct Both {
     pub open_keys: usize,
     pub open_vals: usize,
@@ -51,7 +53,7 @@ pub struct Both {
 }
 
 // How far a walk over the lists is: so many values and times are written, and the next list starts at this time.
-#[derive(Drop)]
+#[derive(Clone, Copy)]
 pub struct Reached {
     pub vals: usize,
     pub time: usize,
@@ -183,7 +185,7 @@ pub fn filter_zero(words: &[u64], out: &mut [u64]) -> u64
 }
 
 // A frontier: its corners, ignitions rising and ticks falling, in the first `count` places.
-#[derive(Drop)]
+#[derive(Clone, Copy)]
 pub struct Frontier {
     pub count: u64,
     pub corners: [u64; 128],
@@ -205,21 +207,21 @@ impl Frontier {
 }
 
 // What one look over the times finds.
-#[derive(Drop)]
+#[derive(Clone, Copy)]
 pub struct Least {
     pub found: bool,
     pub time: u64,
 }
 
 // The corners of the open times, where they are at most as many as a frontier holds.
-#[derive(Drop)]
+#[derive(Clone, Copy)]
 pub struct Corners {
     pub fits: bool,
     pub frontier: Frontier,
 }
 
 // What a look over the times finds: how many are open, and their frontier where it fits.
-#[derive(Drop)]
+#[derive(Clone, Copy)]
 pub struct Kept {
     pub fits: bool,
     pub number: usize,
@@ -297,7 +299,7 @@ fn is_sound(upper: Frontier) -> bool
 }
 
 // What became of the records: all kept (of an empty chunk too), all shipped, or some of each.
-#[derive(Drop)]
+#[derive(Clone, Copy)]
 pub enum Verdict {
     AllKept,
     AllShipped,
@@ -305,7 +307,7 @@ pub enum Verdict {
 }
 
 // What `extract` answers: 0 with the verdict and the frontier of the kept times, or a refusal with all else zero.
-#[derive(Drop)]
+#[derive(Clone, Copy)]
 pub struct Extracted {
     pub number: u64,
     pub verdict: Verdict,

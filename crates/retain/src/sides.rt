@@ -14,7 +14,7 @@ use crate::stay::bit_of;
 use chunk::Contents;
 
 // How many values have an open time, and how many one that isn't.
-#[derive(Drop)]
+#[derive(Clone, Copy)]
 struct Values {
     open: usize,
     shut: usize,

@@ -1,4 +1,6 @@
 // Split: a settled chunk cut by count, each output written as a range of every layer.
+#![tactic(auto)]
+
 ghost use Rattle.split.specs.Cut.{Split};
 
 use chunk::Range;

@@ -12,3 +12,4 @@ pub mod Passing
 pub mod Settling
 pub mod Answers
 pub mod Trimmed
+pub mod Clauses

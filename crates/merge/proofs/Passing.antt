@@ -5,7 +5,7 @@ use borrow.Author.Tests.{eqb-false}
 use Rattle.laws.proofs.Tests.{by_test, true-not-false}
 use Rattle.chunk.specs.Entry.{Entry, same_list}
 use Rattle.chunk.specs.Bodies.{chunk_of, lasts_of, same_key}
-use Rattle.chunk.specs.Words.{entries, well_formed, settled, table_fits, size, nk, nv, nt, limit, over}
+use Rattle.chunk.specs.Words.{entries, well_formed, settled, size, nt, limit, over}
 use Rattle.chunk.specs.Refusal.{Test, first, refuse, malformed, unsettled, empty, written}
 use Rattle.chunk.specs.Contents.{contents_of}
 use Rattle.chunk.specs.Check.{checked_of}

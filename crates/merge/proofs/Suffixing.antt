@@ -8,7 +8,7 @@ use Rattle.laws.proofs.OneChunk.{settled_stands}
 use Rattle.chunk.specs.Entry.{Entry, stands, every, same_list}
 use Rattle.chunk.specs.Bodies.{lasts_of, same_key, keys, vals, val_ends, time_ends, chunk_of}
 use Rattle.chunk.specs.Contents.{start_of}
-use Rattle.chunk.specs.Words.{entries, ends_rise, limit, size, over}
+use Rattle.chunk.specs.Words.{entries, ends_rise, limit, over}
 use Rattle.chunk.specs.declared.Contents.{Contents}
 use Rattle.meld.proofs.Counts.{val_ends_count, time_ends_count, vals_fewer}
 use Rattle.merge.specs.declared.Cursor.{Cursor}

@@ -2,7 +2,7 @@
 -- written and answered.
 use Rattle.std.specs.Prelude.{◌≡◌, ℕ, ◌+◌, ◌-◌, ◌*◌, ◌/◌, ◌<◌, ◌≤◌, cond, List, ◌++◌, length}
 use Rattle.chunk.specs.Entry.{Entry}
-use Rattle.chunk.specs.Bodies.{chunk_of, keys, vals, times}
+use Rattle.chunk.specs.Bodies.{chunk_of}
 use Rattle.chunk.specs.Words.{entries, over, limit}
 use Rattle.chunk.specs.declared.Contents.{Contents}
 use Rattle.merge.specs.declared.Surveys.{Surveys}

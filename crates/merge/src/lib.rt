@@ -1,3 +1,5 @@
+#![tactic(auto)]
+
 ghost use Rattle.std.specs.Prelude.{◌≡◌, ◌+◌, ◌-◌, ◌*◌, ◌<◌, ◌≤◌, true, false, [], ◌∷◌, length, drop, slice_index};
 ghost use Rattle.chunk.specs.Words.{entries, over};
 ghost use Rattle.chunk.specs.Bodies.{chunk_of};
@@ -20,7 +22,7 @@ mod weft;
 mod write;
 
 // Where the doubling steps stand: at an item of the run, and the step that would have left it.
-#[derive(Drop)]
+#[derive(Clone, Copy)]
 struct Stride {
     lower: usize,
     step: usize,
@@ -104,7 +106,7 @@ const THAT: u64 = 1;
 const BOTH: u64 = 2;
 
 // How far a survey has come in each input.
-#[derive(Drop)]
+#[derive(Clone, Copy)]
 struct Spot {
     lower0: usize,
     lower1: usize,
@@ -268,7 +270,7 @@ fn survey(
 }
 
 // The places past the reports of each layer.
-#[derive(Drop)]
+#[derive(Clone, Copy)]
 struct Surveys {
     keys: usize,
     vals: usize,
@@ -332,7 +334,7 @@ fn survey_layers(
 }
 
 // A place in a chunk: the indices of a key, of a value and of a time.
-#[derive(Drop)]
+#[derive(Clone, Copy)]
 pub struct Cursor {
     pub k: usize,
     pub v: usize,
@@ -340,7 +342,7 @@ pub struct Cursor {
 }
 
 // Who survives a merge, and from which key, value and time on.
-#[derive(Drop)]
+#[derive(Clone, Copy)]
 pub enum Survivor {
     Nobody,
     First(usize, usize, usize),
@@ -348,14 +350,14 @@ pub enum Survivor {
 }
 
 // What a merge answers: 0 with its survivor, or a refusal.
-#[derive(Drop)]
+#[derive(Clone, Copy)]
 pub struct Joined {
     pub number: u64,
     pub survivor: Survivor,
 }
 
 // Where the reports of each layer stand in scratch: the keys' from 0 on, and how many of each there are.
-#[derive(Drop)]
+#[derive(Clone, Copy)]
 struct Spans {
     keys: usize,
     vals_at: usize,

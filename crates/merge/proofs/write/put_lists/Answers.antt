@@ -1,0 +1,13 @@
+-- `merge::write::put_lists` meets its contract.
+use Rattle.std.proofs.Common.{arith}
+use Rattle.reports.proofs.WriteEnds.{one_more, lists_long}
+use Rattle.merge.proofs.write.put_lists.Goals as goal
+
+pub put_ends-requires : goal.put_ends-requires
+put_ends-requires c = let t = c in record { room = record { ordered = t.requires.room.ordered; within = t.requires.room.within; fits = omega (arith, t.requires.room.fits) }; words_value = t.requires.ends_value }
+
+pub returns : goal.returns
+returns c =
+    let t = c in
+    let v = t.args in
+    one_more v.at _ v.next _ v.out.now _ (lists_long v.by v.low v.high v.ends.now t.requires.room.ordered t.requires.room.within) (omega (arith, t.requires.room.fits, t.requires.le_high)) c.put_ends.ensures

@@ -1,4 +1,6 @@
 // The survey of two chunks' keys, one report at a time.
+#![tactic(auto)]
+
 ghost use Rattle.std.specs.Prelude.{◌≡◌, ◌≤◌, length};
 ghost use Rattle.reports.specs.Gallop.{run_end};
 ghost use Rattle.reports.specs.Survey.{reports};
@@ -6,7 +8,7 @@ ghost use Rattle.survey.specs.Reports.{next_in, keys_of, next_of, input_number, 
 
 // A report: kind 0 is a run of the first input's keys and 1 of the second's, from `low` up to `high`; 2 is a shared key at `low` in
 // the first and at `high` in the second.
-#[derive(Drop)]
+#[derive(Clone, Copy)]
 pub struct Report {
     pub kind: u64,
     pub low: u64,
@@ -14,21 +16,21 @@ pub struct Report {
 }
 
 // How far a survey has come in each input.
-#[derive(Drop)]
+#[derive(Clone, Copy)]
 pub struct Spot {
     pub i: usize,
     pub j: usize,
 }
 
 // A report, and where both inputs stand past it.
-#[derive(Drop)]
+#[derive(Clone, Copy)]
 pub struct Next {
     pub report: Report,
     pub spot: Spot,
 }
 
 // What a survey answers: 0 and how many reports there are, or a refusal with no report.
-#[derive(Drop)]
+#[derive(Clone, Copy)]
 pub struct Surveyed {
     pub number: u64,
     pub count: usize,
@@ -210,7 +212,7 @@ pub fn survey(a: &[u64], b: &[u64], reports: &mut [Report]) -> Surveyed
 }
 
 // What a survey answers, and the sixteen records that it filled.
-#[derive(Drop)]
+#[derive(Clone, Copy)]
 pub struct Listed {
     pub answer: Surveyed,
     pub reports: [Report; 16],

@@ -1,4 +1,6 @@
 // Merge with its zero filter and the survivor's suffix, for a program that makes the three at once.
+#![tactic(auto)]
+
 ghost use Rattle.std.specs.Prelude.{◌≡◌, ◌<◌};
 ghost use Rattle.reports.specs.Merge.{nobody};
 ghost use Rattle.merge.specs.Outcome.{answer_by};

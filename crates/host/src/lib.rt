@@ -1,3 +1,5 @@
+#![tactic(auto)]
+
 ghost use Rattle.std.specs.Prelude.{◌≡◌, [], ◌∷◌, ◌++◌, ◌+◌, ◌*◌, ◌≤◌, length, take, drop};
 ghost use Rattle.chunk.specs.Words.{over};
 ghost use Rattle.form.specs.Form.{FormAnswers, UnsortedAnswers};
@@ -38,8 +40,7 @@ const MERGE_WORDS: usize = 4;
 const DONE: u64 = 100;
 
 // The check of a chunk; its answer is settled (0 or 1), nk, nv, nt, nd.
-#[unsafe(no_mangle)]
-pub extern "C" fn rl_check(words: &[u64], answer: &mut [u64]) -> u64
+pub fn rl_check(words: &[u64], answer: &mut [u64]) -> u64
     ensures { Answers (check_number words.now answer.old) (check_answer words.now answer.old) result answer.new }
 {
     if answer.len() < CHECK_WORDS {
@@ -61,48 +62,42 @@ pub extern "C" fn rl_check(words: &[u64], answer: &mut [u64]) -> u64
 }
 
 // The settled chunk of updates that never fall.
-#[unsafe(no_mangle)]
-pub extern "C" fn rl_form(updates: &[u64], out: &mut [u64]) -> u64
+pub fn rl_form(updates: &[u64], out: &mut [u64]) -> u64
     ensures { FormAnswers updates.now out.old result out.new }
 {
     form::form(updates, out)
 }
 
 // The settled chunk of updates in any order, which are left sorted.
-#[unsafe(no_mangle)]
-pub extern "C" fn rl_form_unsorted(updates: &mut [u64], out: &mut [u64]) -> u64
+pub fn rl_form_unsorted(updates: &mut [u64], out: &mut [u64]) -> u64
     ensures { UnsortedAnswers updates.old out.old result updates.new out.new }
 {
     form::form_unsorted(updates, out)
 }
 
 // Chunk `b` behind chunk `a`.
-#[unsafe(no_mangle)]
-pub extern "C" fn rl_meld(a: &[u64], b: &[u64], out: &mut [u64]) -> u64
+pub fn rl_meld(a: &[u64], b: &[u64], out: &mut [u64]) -> u64
     ensures { Melded a.now b.now out.old result out.new }
 {
     meld::meld(a, b, out)
 }
 
 // The chunk without the times that have no diff.
-#[unsafe(no_mangle)]
-pub extern "C" fn rl_filter_zero(words: &[u64], out: &mut [u64]) -> u64
+pub fn rl_filter_zero(words: &[u64], out: &mut [u64]) -> u64
     ensures { (result ≡ filter_number words.now out.old) × (out.new ≡ filter_out words.now out.old) }
 {
     retain::filter_zero(words, out)
 }
 
 // The first n records, and the rest.
-#[unsafe(no_mangle)]
-pub extern "C" fn rl_split_at(words: &[u64], n: u64, first: &mut [u64], rest: &mut [u64]) -> u64
+pub fn rl_split_at(words: &[u64], n: u64, first: &mut [u64], rest: &mut [u64]) -> u64
     ensures { Split result first.new rest.new words.now n first.old rest.old }
 {
     split::split_at(words, n, first, rest)
 }
 
 // The chunk of the records from the time at index t on, whose key and value are at k and v.
-#[unsafe(no_mangle)]
-pub extern "C" fn rl_suffix_chunk(k: u64, v: u64, t: u64, words: &[u64], out: &mut [u64]) -> u64
+pub fn rl_suffix_chunk(k: u64, v: u64, t: u64, words: &[u64], out: &mut [u64]) -> u64
     ensures value { result ≡ suffix_number (record { k = k; v = v; t = t }) words.now out.old }
     ensures out_after { out.new ≡ suffix_out (record { k = k; v = v; t = t }) words.now out.old }
 {
@@ -156,8 +151,7 @@ fn read_walker(words: &[u64]) -> walk::Walker
 }
 
 // Where a walk starts: the walker's seven words.
-#[unsafe(no_mangle)]
-pub extern "C" fn rl_walk_start(words: &[u64], walker: &mut [u64]) -> u64
+pub fn rl_walk_start(words: &[u64], walker: &mut [u64]) -> u64
     ensures { Answers (start_number words.now walker.old) (start_answer words.now walker.old) result walker.new }
 {
     if walker.len() < WALKER_WORDS {
@@ -174,8 +168,7 @@ pub extern "C" fn rl_walk_start(words: &[u64], walker: &mut [u64]) -> u64
 }
 
 // One step of a walk: the walker's words go past the next record, whose words are given; or DONE, or 5, and nothing changes.
-#[unsafe(no_mangle)]
-pub extern "C" fn rl_walk_step(words: &[u64], walker: &mut [u64], found: &mut [u64]) -> u64
+pub fn rl_walk_step(words: &[u64], walker: &mut [u64], found: &mut [u64]) -> u64
     ensures { StepAnswers words.now walker.old found.old result walker.new found.new }
 {
     if walker.len() < WALKER_WORDS {
@@ -233,8 +226,7 @@ fn write_extracted(out: &mut [u64], verdict: retain::Verdict, frontier: retain::
 }
 
 // The open records of a chunk kept and the others shipped; the answer is the verdict and the kept times' frontier.
-#[unsafe(no_mangle)]
-pub extern "C" fn rl_extract(
+pub fn rl_extract(
     words: &[u64],
     upper: &[u64],
     answer: &mut [u64],
@@ -291,8 +283,7 @@ fn write_reports(a: &[u64], b: &[u64], count: usize, out: &mut [u64])
 }
 
 // The survey of two chunks' keys: three words to a report in the lent words, and their number in the answer.
-#[unsafe(no_mangle)]
-pub extern "C" fn rl_survey(a: &[u64], b: &[u64], lent: &mut [u64], answer: &mut [u64]) -> u64
+pub fn rl_survey(a: &[u64], b: &[u64], lent: &mut [u64], answer: &mut [u64]) -> u64
     ensures { SurveyAnswers a.now b.now lent.old answer.old result lent.new answer.new }
 {
     if answer.len() < SURVEY_WORDS {
@@ -336,8 +327,7 @@ fn say_joined(joined: merge::Joined, answer: &mut [u64]) -> u64
 }
 
 // Two chunks merged up to the smaller of their last positions; the answer is the survivor and its cursor.
-#[unsafe(no_mangle)]
-pub extern "C" fn rl_merge_pair(
+pub fn rl_merge_pair(
     words0: &[u64],
     words1: &[u64],
     scratch: &mut [u64],
@@ -354,8 +344,7 @@ pub extern "C" fn rl_merge_pair(
 }
 
 // The whole merge: into `out`, that without the times that have no diff into `clean`, and the survivor's suffix into `rest`.
-#[unsafe(no_mangle)]
-pub extern "C" fn rl_merge_whole(
+pub fn rl_merge_whole(
     words0: &[u64],
     words1: &[u64],
     scratch: &mut [u64],

@@ -6,7 +6,7 @@ ifeq ($(HERE),x86_64)
 CC = cc
 RUN =
 else
-TOOLS := $(patsubst %/docs/START-HERE.md,%,$(shell rt doc))/on/$(HERE)/toolchain
+TOOLS := $(patsubst %/START-HERE.md,%,$(shell rt doc))/on/$(HERE)/toolchain
 RUN = $(TOOLS)/bin/qemu-x86_64
 ifneq ($(shell command -v x86_64-linux-gnu-gcc 2> /dev/null),)
 # another processor with a cross compiler: that, with its own C library
@@ -27,8 +27,9 @@ all: build/rafterloop
 
 # rt keeps what is proved, so an unchanged library is built again at once
 $(LIB): crates.txt $(wildcard crates/*/src/*.rt)
-	rt staticlib host
-	touch $(LIB)
+	cd crates/host_c && rt lib
+	mkdir -p $(@D)
+	cp crates/host_c/out/libhost_c.a $(LIB)
 
 build/%: host/%.c host/rafterloop.h $(LIB)
 	mkdir -p build

@@ -8,7 +8,7 @@ set -eu
 cd "$(dirname "$0")/.."
 here=$(uname -m)
 [ "$here" != x86_64 ] || { echo "native.sh: this machine is x86-64, and runs the library that ships: make speed" >&2; exit 2; }
-kit=$(dirname "$(dirname "$(rt doc)")")
+kit=$(dirname "$(rt doc)")
 made=$PWD/build/native
 links=$made/kit/on/$here
 rm -rf "$made"
@@ -23,7 +23,7 @@ for word; do case \$word in *.bc | *.ll) cp "\$word" '$made/module.bc' ;; esac; 
 exec '$kit/on/$here/toolchain/bin/clang' "\$@"
 END
 chmod +x "$links/toolchain/bin/clang"
-RATTLE_HOME=$made/kit rt staticlib host
+(cd crates/host_c && RATTLE_HOME=$made/kit rt lib)
 [ -s "$made/module.bc" ] || { echo "native.sh: the kit's clang was handed no module" >&2; exit 1; }
 # the module names its processor, x86-64, which clang then says that it passes over
 "$kit/on/$here/toolchain/bin/clang" --target="$here-unknown-linux-gnu" -Wno-override-module -ffunction-sections -fdata-sections \

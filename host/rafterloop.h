@@ -1,4 +1,4 @@
-/* Rafterloop for C: the calls of target/staticlib/libhost.a, which `rt staticlib host` writes (x86-64, System V calling convention).
+/* Rafterloop for C: the calls of target/staticlib/libhost.a, which `make` builds of the crate host_c (x86-64, System V calling convention).
  *
  * Every slice is a pointer to 64-bit words and a count of words. The slices of one call must not overlap: no word of one may be a
  * word of another. A pointer is never null, and is aligned to 8 bytes, even where the count is 0.

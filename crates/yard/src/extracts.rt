@@ -1,5 +1,6 @@
 // Extract: the open records kept, the others shipped, and the frontier of the kept times.
 use retain::{Extracted, Frontier, Verdict};
+use std::io;
 
 // A frontier of up to two corners.
 fn corners(count: u64, first: u64, second: u64) -> Frontier {
@@ -57,16 +58,16 @@ fn extracted(
     crate::same64(&two, &shipped)
 }
 
-pub fn extracts() {
+pub fn extracts(rt: &impl Print) -> io::Result<()> {
     let a = crate::chunk_a();
-    two_corners(&a);
-    one_corner(&a);
-    no_corner(&a);
-    stairs();
+    two_corners(rt, &a)?;
+    one_corner(rt, &a)?;
+    no_corner(rt, &a)?;
+    stairs(rt)
 }
 
 // At (1, 9) and (2, 0).
-fn two_corners(a: &[u64]) {
+fn two_corners(rt: &impl Print, a: &[u64]) -> io::Result<()> {
     let kept = [
         1,
         2,
@@ -95,11 +96,11 @@ fn two_corners(a: &[u64]) {
         crate::front(&kept),
         crate::front(&shipped),
     );
-    crate::say(b"extract: A at (1, 9) and (2, 0)", right);
+    crate::say(rt, b"extract: A at (1, 9) and (2, 0)", right)
 }
 
 // At (1, 9) alone: (2, 0) is later in the sort order, and not at or above it in tick.
-fn one_corner(a: &[u64]) {
+fn one_corner(rt: &impl Print, a: &[u64]) -> io::Result<()> {
     let kept = [1, 1, 1, 1, 7, 1, 3, 1, 4294967305, 1, 18446744073709551615];
     let shipped = [
         2, 3, 3, 3, 7, 9, 2, 3, 3, 4, 3, 1, 2, 3, 4294967301, 8589934592, 4294967301, 1, 2, 3, 1,
@@ -112,11 +113,11 @@ fn one_corner(a: &[u64]) {
         crate::front(&kept),
         crate::front(&shipped),
     );
-    crate::say(b"extract: A at (1, 9) alone", right);
+    crate::say(rt, b"extract: A at (1, 9) alone", right)
 }
 
 // With the empty frontier nothing is open; a frontier out of order is refused.
-fn no_corner(a: &[u64]) {
+fn no_corner(rt: &impl Print, a: &[u64]) -> io::Result<()> {
     let empty = [0, 0, 0, 0];
     let right = extracted(
         a,
@@ -125,7 +126,7 @@ fn no_corner(a: &[u64]) {
         crate::front(&empty),
         crate::front(a),
     );
-    crate::say(b"extract: A at no corner", right);
+    crate::say(rt, b"extract: A at no corner", right)?;
     let fallen = extracted(
         a,
         corners(2, 8589934592, 4294967305),
@@ -133,9 +134,9 @@ fn no_corner(a: &[u64]) {
         [5; 64],
         [5; 64],
     );
-    crate::say(b"extract: corners out of order", fallen);
+    crate::say(rt, b"extract: corners out of order", fallen)?;
     let many = extracted(a, corners(129, 0, 0), [9, 0, 0, 0, 0, 0], [5; 64], [5; 64]);
-    crate::say(b"extract: a count of 129", many);
+    crate::say(rt, b"extract: a count of 129", many)
 }
 
 // A chunk of n times of one fault, ignitions rising and ticks falling: none is at or below another.
@@ -174,7 +175,7 @@ fn climbed(n: usize, number: u64, count: u64) -> bool {
     got.frontier.count == count
 }
 
-fn stairs() {
-    crate::say(b"extract: 128 kept corners", climbed(128, 0, 128));
-    crate::say(b"extract: 129 kept corners", climbed(129, 10, 0));
+fn stairs(rt: &impl Print) -> io::Result<()> {
+    crate::say(rt, b"extract: 128 kept corners", climbed(128, 0, 128))?;
+    crate::say(rt, b"extract: 129 kept corners", climbed(129, 10, 0))
 }

@@ -1,4 +1,5 @@
 // Check and walk. An answer is laid out as words and compared with the words that the document gives.
+use std::io;
 use walk::{Stepped, Walker};
 
 // The number, whether it is settled, and the four counts.
@@ -16,28 +17,31 @@ fn checked(words: &[u64], told: [u64; 6]) -> bool {
     crate::same(&got, &told)
 }
 
-pub fn checks() {
+pub fn checks(rt: &impl Print) -> io::Result<()> {
     let a = crate::chunk_a();
-    crate::say(b"check: A", checked(&a, [0, 1, 2, 3, 4, 4]));
+    crate::say(rt, b"check: A", checked(&a, [0, 1, 2, 3, 4, 4]))?;
     let empty = [0, 0, 0, 0, 5, 5];
     crate::say(
+        rt,
         b"check: the empty chunk, with words after it",
         checked(&empty, [0, 1, 0, 0, 0, 0]),
-    );
+    )?;
     let unsettled = unsettled();
     crate::say(
+        rt,
         b"check: a time without a diff",
         checked(&unsettled, [0, 0, 1, 1, 1, 0]),
-    );
-    crate::say(b"check: no word at all", cut(&a, 0));
-    crate::say(b"check: three words", cut(&empty, 3));
-    crate::say(b"check: A without its last word", cut(&a, 25));
+    )?;
+    crate::say(rt, b"check: no word at all", cut(&a, 0))?;
+    crate::say(rt, b"check: three words", cut(&empty, 3))?;
+    crate::say(rt, b"check: A without its last word", cut(&a, 25))?;
     let wraps = [0x8000_0000_0000_0000, 0x8000_0000_0000_0000, 0, 0];
     crate::say(
+        rt,
         b"check: counts that would wrap",
         checked(&wraps, [5, 0, 0, 0, 0, 0]),
-    );
-    damages();
+    )?;
+    damages(rt)
 }
 
 // A with one word changed.
@@ -62,21 +66,23 @@ fn cut(words: &[u64], count: usize) -> bool {
     false
 }
 
-fn damages() {
-    crate::say(b"check: a value end that stays", damaged(7, 2));
-    crate::say(b"check: keys that fall", damaged(4, 9));
-    crate::say(b"check: values that fall within a key", damaged(9, 3));
+fn damages(rt: &impl Print) -> io::Result<()> {
+    crate::say(rt, b"check: a value end that stays", damaged(7, 2))?;
+    crate::say(rt, b"check: keys that fall", damaged(4, 9))?;
+    crate::say(rt, b"check: values that fall within a key", damaged(9, 3))?;
     crate::say(
+        rt,
         b"check: times that stay within a value",
         damaged(15, 4294967301),
-    );
-    crate::say(b"check: a last time end past the times", damaged(13, 5));
-    crate::say(b"check: a diff end two on", damaged(18, 2));
-    crate::say(b"check: a diff of 0", damaged(25, 0));
+    )?;
+    crate::say(rt, b"check: a last time end past the times", damaged(13, 5))?;
+    crate::say(rt, b"check: a diff end two on", damaged(18, 2))?;
+    crate::say(rt, b"check: a diff of 0", damaged(25, 0))?;
     crate::say(
+        rt,
         b"check: a count near 2^64",
         damaged(2, 0xffff_ffff_ffff_fffc),
-    );
+    )
 }
 
 // A time with no diff.
@@ -106,7 +112,7 @@ fn starts(words: &[u64], number: u64, told: [u64; 7]) -> bool {
 }
 
 // How a step went (0 with a record, 1 done, 5 refused), the record, and the walker after it.
-#[derive(Drop)]
+#[derive(Clone, Copy)]
 struct Row {
     how: [u64; 5],
     next: Walker,
@@ -131,67 +137,90 @@ fn step(words: &[u64], w: Walker) -> Row {
 }
 
 // Takes one step, says whether it went as told, and hands the walker on.
-fn steps(name: &[u8], words: &[u64], w: Walker, told: [u64; 5]) -> Walker {
+fn steps(
+    rt: &impl Print,
+    name: &[u8],
+    words: &[u64],
+    w: Walker,
+    told: [u64; 5],
+) -> io::Result<Walker> {
     let row = step(words, w);
     let how = row.how;
-    crate::say(name, crate::same(&how, &told));
-    row.next
+    crate::say(rt, name, crate::same(&how, &told))?;
+    Ok(row.next)
 }
 
-pub fn walks() {
+pub fn walks(rt: &impl Print) -> io::Result<()> {
     let a = crate::chunk_a();
-    crate::say(b"walk: start of A", starts(&a, 0, [0, 0, 0, 0, 2, 2, 1]));
-    four_records(&a);
+    crate::say(
+        rt,
+        b"walk: start of A",
+        starts(&a, 0, [0, 0, 0, 0, 2, 2, 1]),
+    )?;
+    four_records(rt, &a)?;
     let m = cancelled();
-    over_a_gap(&m);
-    odd_walks();
+    over_a_gap(rt, &m)?;
+    odd_walks(rt)
 }
 
-fn four_records(a: &[u64]) {
+fn four_records(rt: &impl Print, a: &[u64]) -> io::Result<()> {
     let w = walk::walk_start(a).walker;
-    let w = steps(b"walk: A, first record", a, w, [0, 7, 3, 4294967301, 1]);
+    let w = steps(rt, b"walk: A, first record", a, w, [0, 7, 3, 4294967301, 1])?;
     let w = steps(
+        rt,
         b"walk: A, second record",
         a,
         w,
         [0, 7, 3, 4294967305, 18446744073709551615],
-    );
-    let w = steps(b"walk: A, third record", a, w, [0, 7, 4, 8589934592, 1]);
-    let w = steps(b"walk: A, fourth record", a, w, [0, 9, 3, 4294967301, 2]);
-    let w = steps(b"walk: A, done", a, w, [1, 0, 0, 0, 0]);
-    steps(b"walk: A, done for good", a, w, [1, 0, 0, 0, 0]);
+    )?;
+    let w = steps(rt, b"walk: A, third record", a, w, [0, 7, 4, 8589934592, 1])?;
+    let w = steps(
+        rt,
+        b"walk: A, fourth record",
+        a,
+        w,
+        [0, 9, 3, 4294967301, 2],
+    )?;
+    let w = steps(rt, b"walk: A, done", a, w, [1, 0, 0, 0, 0])?;
+    steps(rt, b"walk: A, done for good", a, w, [1, 0, 0, 0, 0])?;
+    Ok(())
 }
 
-fn over_a_gap(m: &[u64]) {
+fn over_a_gap(rt: &impl Print, m: &[u64]) -> io::Result<()> {
     let w = walk::walk_start(m).walker;
     let w = steps(
+        rt,
         b"walk: before a time without a diff",
         m,
         w,
         [0, 7, 3, 4294967301, 1],
-    );
+    )?;
     let w = steps(
+        rt,
         b"walk: after a time without a diff",
         m,
         w,
         [0, 7, 4, 4294967296, 1],
-    );
-    steps(b"walk: done after it", m, w, [1, 0, 0, 0, 0]);
+    )?;
+    steps(rt, b"walk: done after it", m, w, [1, 0, 0, 0, 0])?;
+    Ok(())
 }
 
 // Walkers and words that no start gives.
-fn odd_walks() {
+fn odd_walks(rt: &impl Print) -> io::Result<()> {
     let a = crate::chunk_a();
     let none = unsettled();
     crate::say(
+        rt,
         b"walk: start with times and no diffs",
         starts(&none, 0, [0, 0, 0, 0, 1, 1, 0]),
-    );
+    )?;
     let unsorted = changed(4, 9);
     crate::say(
+        rt,
         b"walk: start of words that are no chunk",
         starts(&unsorted, 5, [0, 0, 0, 0, 0, 0, 0]),
-    );
+    )?;
     let last = Walker {
         k: 0xffff_ffff_ffff_ffff,
         v: 0xffff_ffff_ffff_ffff,
@@ -202,11 +231,12 @@ fn odd_walks() {
         d_end: 0,
     };
     steps(
+        rt,
         b"walk: an index at 2^64 - 1 that must move",
         &a,
         last,
         [5, 0, 0, 0, 0],
-    );
+    )?;
     let past = Walker {
         k: 0xffff_ffff_ffff_ffff,
         v: 0,
@@ -216,12 +246,14 @@ fn odd_walks() {
         t_end: 0,
         d_end: 0,
     };
-    steps(b"walk: done before any read", &a, past, [1, 0, 0, 0, 0]);
+    steps(rt, b"walk: done before any read", &a, past, [1, 0, 0, 0, 0])?;
     let wraps = [0x8000_0000_0000_0000, 0x8000_0000_0000_0000, 0, 0];
     steps(
+        rt,
         b"walk: a table that does not fit",
         &wraps,
         past,
         [5, 0, 0, 0, 0],
-    );
+    )?;
+    Ok(())
 }

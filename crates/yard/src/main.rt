@@ -1,6 +1,8 @@
 // The yard examples of document 01, run: each line of output names an example and says `ok`, or `DIFFERS` where the library's answer,
 // or a lent word afterwards, is not what the document says.
-use libc::STDOUT_FILENO;
+#![tactic(auto)]
+
+use std::io::{self, Write};
 
 mod cuts;
 mod extracts;
@@ -11,30 +13,31 @@ mod merges;
 mod recorded;
 mod surveys;
 
-fn main() {
-    ground::checks();
-    ground::walks();
-    lent::walks();
-    forms::forms();
-    forms::unsorted_forms();
-    cuts::filters();
-    cuts::splits();
-    extracts::extracts();
-    merges::merges();
-    merges::wholes();
-    cuts::suffixes();
-    cuts::melds();
-    surveys::surveys();
-    recorded::replay();
+fn main(rt: HostRuntime) -> io::Result<()> {
+    ground::checks(&rt)?;
+    ground::walks(&rt)?;
+    lent::walks(&rt)?;
+    forms::forms(&rt)?;
+    forms::unsorted_forms(&rt)?;
+    cuts::filters(&rt)?;
+    cuts::splits(&rt)?;
+    extracts::extracts(&rt)?;
+    merges::merges(&rt)?;
+    merges::wholes(&rt)?;
+    cuts::suffixes(&rt)?;
+    cuts::melds(&rt)?;
+    surveys::surveys(&rt)?;
+    recorded::replay(&rt)
 }
 
 // One line for one example.
-fn say(name: &[u8], right: bool) {
-    io::write_all(STDOUT_FILENO, name);
+fn say(rt: &impl Print, name: &[u8], right: bool) -> io::Result<()> {
+    let mut out = io::writer(rt);
+    out.write_all(name)?;
     if right {
-        io::write_all(STDOUT_FILENO, b": ok\n");
+        out.write_all(b": ok\n")
     } else {
-        io::write_all(STDOUT_FILENO, b": DIFFERS\n");
+        out.write_all(b": DIFFERS\n")
     }
 }
 

@@ -3,10 +3,10 @@
 // t, and a negative word is the same in two's complement. `python3 oracle/record.py` has the Rust answer again, and writes the lines anew.
 ghost use Rattle.std.specs.Prelude.{◌+◌, ◌<◌, ◌≤◌, length};
 
-use libc::STDOUT_FILENO;
+use std::io;
 
 // Where reading the lines stands: in the text, at a field's first word, which counts its others, and past its last.
-#[derive(Drop)]
+#[derive(Clone, Copy)]
 struct Place {
     at: usize,
     start: usize,
@@ -14,13 +14,13 @@ struct Place {
 }
 
 // A number, and where the text goes on behind it.
-#[derive(Drop)]
+#[derive(Clone, Copy)]
 struct Found {
     word: u64,
     past: usize,
 }
 
-pub fn replay() {
+pub fn replay(rt: &impl Print) -> io::Result<()> {
     let words = read_lines(
         b"form 0 | | | 0 0 0 0 | |
 form 0 | 7 3 1.5 1 7 3 1.9 -1 7 4 2.0 1 9 3 1.5 2 | | 2 3 4 4 7 9 2 3 3 4 3 2 3 4 1.5 1.9 2.0 1.5 1 2 3 4 1 -1 1 2 | |
@@ -78,7 +78,7 @@ merge 9 | 2 3 4 4 7 9 2 3 3 4 3 2 3 4 1.5 1.9 2.0 1.5 1 2 3 4 1 -1 1 2 | 2 3 4 4
 merge 9 | 2 4 4 4 0 1 2 4 0 1 1 2 1 2 3 4 0 2.0 1.1 1 1 2 3 4 1 -2 -1 1 | 2 3 4 4 0 1 1 3 2 0 2 1 3 4 2 1 2.0 2 1 2 3 4 1 -2 -1 -1 | 2 6 7 7 0 1 3 6 0 1 2 0 1 2 1 2 3 5 6 7 0 2.0 2 1 2.0 1.1 1 1 2 3 4 5 6 7 1 -2 1 -2 -1 -1 1 | 2 1 2 3 |
 ",
     );
-    run(&words);
+    run(rt, &words)
 }
 
 // The digits from an index on, as a number below 2^63.
@@ -292,14 +292,13 @@ fn number(words: &[u64]) -> u64 {
 }
 
 // Every case; an empty field for the call is the end.
-fn run(words: &[u64]) {
+fn run(rt: &impl Print, words: &[u64]) -> io::Result<()> {
     let mut at = 0;
     let mut cases = 0;
     let mut same = 0;
     while at < words.len() {
         if words[at] == 0 {
-            tell(cases, same);
-            return;
+            return tell(rt, cases, same);
         }
         if replayed(words, at) {
             same += 1;
@@ -307,16 +306,12 @@ fn run(words: &[u64]) {
         cases += 1;
         at = past_case(words, at);
     }
-    tell(cases, same);
+    tell(rt, cases, same)
 }
 
 // How many there were, and how many are the same.
-fn tell(cases: usize, same: usize) {
-    io::write_all(STDOUT_FILENO, b"recorded: ");
-    io::print_decimal(STDOUT_FILENO, cases as u64);
-    io::write_all(STDOUT_FILENO, b" answers of the Rust, ");
-    io::print_decimal(STDOUT_FILENO, same as u64);
-    io::write_all(STDOUT_FILENO, b" the same\n");
+fn tell(rt: &impl Print, cases: usize, same: usize) -> io::Result<()> {
+    println!(rt; "recorded: {cases} answers of the Rust, {same} the same")
 }
 
 // By the call's number.

@@ -1,4 +1,5 @@
 // The survey of two chunks' keys into report records.
+use std::io;
 use survey::Report;
 
 // Chunk B of the document: truck 7 alone.
@@ -15,16 +16,16 @@ fn told(report: Report, kind: u64, low: u64, high: u64) -> bool {
     crate::same(&got, &words)
 }
 
-pub fn surveys() {
+pub fn surveys(rt: &impl Print) -> io::Result<()> {
     let a = crate::chunk_a();
     let b = chunk_b();
-    shared(&a, &b);
+    shared(rt, &a, &b)?;
     let empty = [0, 0, 0, 0];
-    refused(&a, &empty);
+    refused(rt, &a, &empty)
 }
 
 // Truck 7 is in both, truck 9 in A alone.
-fn shared(a: &[u64], b: &[u64]) {
+fn shared(rt: &impl Print, a: &[u64], b: &[u64]) -> io::Result<()> {
     let found = survey::survey_listed(a, b);
     let answer = found.answer;
     let reports = found.reports;
@@ -32,19 +33,25 @@ fn shared(a: &[u64], b: &[u64]) {
     let second = reports[1];
     let third = reports[2];
     crate::say(
+        rt,
         b"survey: A and B, two reports",
         answer.number == 0 && answer.count == 2,
-    );
-    crate::say(b"survey: truck 7 in both", told(first, 2, 0, 0));
-    crate::say(b"survey: truck 9 in A alone", told(second, 0, 1, 2));
-    crate::say(b"survey: the record after the last", told(third, 0, 0, 0));
+    )?;
+    crate::say(rt, b"survey: truck 7 in both", told(first, 2, 0, 0))?;
+    crate::say(rt, b"survey: truck 9 in A alone", told(second, 0, 1, 2))?;
+    crate::say(
+        rt,
+        b"survey: the record after the last",
+        told(third, 0, 0, 0),
+    )
 }
 
-fn refused(a: &[u64], empty: &[u64]) {
+fn refused(rt: &impl Print, a: &[u64], empty: &[u64]) -> io::Result<()> {
     let found = survey::survey_listed(a, empty);
     let answer = found.answer;
     crate::say(
+        rt,
         b"survey: the empty chunk",
         answer.number == 7 && answer.count == 0,
-    );
+    )
 }

@@ -92,7 +92,8 @@ def edit_files():
 
 
 def prose_files():
-    return [f for f in ['README.md'] if os.path.exists(f)] + sorted(glob.glob('docs/**/*.md', recursive=True))
+    # docs/PORT.md sets old names beside new ones, and keeps both
+    return [f for f in ['README.md'] if os.path.exists(f)] + sorted(f for f in glob.glob('docs/**/*.md', recursive=True) if f != 'docs/PORT.md')
 
 
 def is_camel(word):

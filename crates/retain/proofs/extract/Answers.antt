@@ -78,20 +78,20 @@ returns-then-not-is_sound c =
 pub returns-then-number-ne0 : goal.returns-then-number-ne0
 returns-then-number-ne0 c =
     let a = c in
-    let o : sound a.args.upper.count a.args.upper.corners ≡ true = sym c.is_sound.ensures ∙ c.if-not-is_sound.false in
+    let o : sound a.args.upper.count a.args.upper.corners ≡ true = cc in
     rw c.refused-then-number-ne0.ensures (refusal a.args.upper.count a.args.upper.corners a.args.words.now a.args.kept.now a.args.shipped.now 4 (malformed a.args.upper.count a.args.upper.corners a.args.words.now a.args.kept.now a.args.shipped.now o (failed _ a.args.words.now c.check-checked.ensures c.if-number-ne0.true).formed))
 
 pub returns-then-not-settled : goal.returns-then-not-settled
 returns-then-not-settled c =
     let a = c in
-    let o : sound a.args.upper.count a.args.upper.corners ≡ true = sym c.is_sound.ensures ∙ c.if-not-is_sound.false in
+    let o : sound a.args.upper.count a.args.upper.corners ≡ true = cc in
     let p = passed _ a.args.words.now c.check-checked.ensures c.if-number-ne0.false in
     rw c.refused-then-not-settled.ensures (refusal a.args.upper.count a.args.upper.corners a.args.words.now a.args.kept.now a.args.shipped.now 5 (unsettled a.args.upper.count a.args.upper.corners a.args.words.now a.args.kept.now a.args.shipped.now o p.formed (sym p.settles ∙ c.if-not-settled.true)))
 
 pub returns-then-kept-size : goal.returns-then-kept-size
 returns-then-kept-size c =
     let a = c in
-    let o : sound a.args.upper.count a.args.upper.corners ≡ true = sym c.is_sound.ensures ∙ c.if-not-is_sound.false in
+    let o : sound a.args.upper.count a.args.upper.corners ≡ true = cc in
     let p = passed _ a.args.words.now c.check-checked.ensures c.if-number-ne0.false in
     let s : settled a.args.words.now ≡ true = sym p.settles ∙ c.if-not-settled.false in
     let l = c.if-kept-size.true in
@@ -100,7 +100,7 @@ returns-then-kept-size c =
 pub returns-then-shipped-size : goal.returns-then-shipped-size
 returns-then-shipped-size c =
     let a = c in
-    let o : sound a.args.upper.count a.args.upper.corners ≡ true = sym c.is_sound.ensures ∙ c.if-not-is_sound.false in
+    let o : sound a.args.upper.count a.args.upper.corners ≡ true = cc in
     let p = passed _ a.args.words.now c.check-checked.ensures c.if-number-ne0.false in
     let s : settled a.args.words.now ≡ true = sym p.settles ∙ c.if-not-settled.false in
     let l = c.if-kept-size.false in
@@ -110,14 +110,14 @@ returns-then-shipped-size c =
 pub slice_bounds-extract_open-end : goal.slice_bounds-extract_open-end
 slice_bounds-extract_open-end c =
     let a = c in
-    let o : sound a.args.upper.count a.args.upper.corners ≡ true = sym c.is_sound.ensures ∙ c.if-not-is_sound.false in
+    let o : sound a.args.upper.count a.args.upper.corners ≡ true = cc in
     let b = sound-count a.args.upper.count a.args.upper.corners o in
     omega arith
 
 pub extract_open-requires : goal.extract_open-requires
 extract_open-requires c =
     let a = c in
-    let o : sound a.args.upper.count a.args.upper.corners ≡ true = sym c.is_sound.ensures ∙ c.if-not-is_sound.false in
+    let o : sound a.args.upper.count a.args.upper.corners ≡ true = cc in
     let p = passed _ a.args.words.now c.check-checked.ensures c.if-number-ne0.false in
     let s : settled a.args.words.now ≡ true = sym p.settles ∙ c.if-not-settled.false in
     let l = c.if-kept-size.false in
@@ -127,7 +127,7 @@ extract_open-requires c =
 pub returns : goal.returns
 returns c =
     let a = c in
-    let o : sound a.args.upper.count a.args.upper.corners ≡ true = sym c.is_sound.ensures ∙ c.if-not-is_sound.false in
+    let o : sound a.args.upper.count a.args.upper.corners ≡ true = cc in
     let p = passed _ a.args.words.now c.check-checked.ensures c.if-number-ne0.false in
     let s : settled a.args.words.now ≡ true = sym p.settles ∙ c.if-not-settled.false in
     let l = c.if-kept-size.false in

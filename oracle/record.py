@@ -6,7 +6,7 @@
 The cases are the ones below: document 01's chunk A and what it names, edges, and a few drawn with a fixed seed. Each is asked of
 target/checked/oracle (built from DOCS_SRC, default ../shared/docs/src, where it isn't there yet), and its answer stands in the line as the Rust gave it; a frontier's
 times are sorted. Outputs have room for 64 words, so a case has at most eight records. Run it again after a change here; the lines between
-`b"` and `",` are replaced, and yard's stdout says how many there are."""
+`LINES: &str = "` and `";` are replaced, and yard's stdout says how many there are."""
 import os, random, subprocess, sys
 import compare
 from compare import HERE, HALF, TOP64, TOP, chunk_of, cursor_at, in_order, least, time, updates_of
@@ -88,9 +88,9 @@ def main():
     every = list(cases())
     lines = [line_of(c, a) for c, a in zip(every, compare.run([oracle], [asked(c) for c in every]))]
     text = open(FILE, encoding="utf-8").read()
-    head, rest = text.split('b"', 1)
-    tail = rest.split('",', 1)[1]
-    open(FILE, "w", encoding="utf-8").write(head + 'b"' + "\n".join(lines) + '\n",' + tail)
+    head, rest = text.split('LINES: &str = "', 1)
+    tail = rest.split('";', 1)[1]
+    open(FILE, "w", encoding="utf-8").write(head + 'LINES: &str = "' + "\n".join(lines) + '\n";' + tail)
     told = [l for l in open(STDOUT).read().split("\n") if l and not l.startswith("recorded:")]
     told.append("recorded: %d answers of the Rust, %d the same" % (len(lines), len(lines)))
     open(STDOUT, "w").write("\n".join(told) + "\n")

@@ -9,3 +9,4 @@ pub mod Rowing
 pub mod Stepping
 pub mod Looking
 pub mod Lending
+pub mod Refusals

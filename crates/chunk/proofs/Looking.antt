@@ -7,6 +7,8 @@ use native.Mathlib.Omega.{arith}
 use native.Mathlib.Nat.{add-zero}
 use native.Mathlib.Numerals.{add-one}
 use borrow.Author.Tests.{le-ltb, eqb-true}
+use Rattle.std.specs.declared.slice.Chunks.{Chunks}
+use Rattle.std.specs.Slice.Iter.{chunks_rest}
 use lib.ListN.{length, take, drop, get_or, length-drop, drop_of_length-le}
 use lib.Seq.{drop-cons}
 use lib.Dec.{eqb}
@@ -36,7 +38,7 @@ next times i high h k =
     let m : i < length times = omega arith in
     rw (q, drop-cons times i 0)
 
-module _ (times : List ℕ) (low high : ℕ) (k : high ≤ length times) where
+module _ {times : List ℕ} {low high : ℕ} (k : high ≤ length times) where
   pub looked_starts : low < high → Looked times low high 0 (get_or times low 0) low
   unfolding falls_of falls_from
   looked_starts h =
@@ -47,24 +49,25 @@ module _ (times : List ℕ) (low high : ℕ) (k : high ≤ length times) where
         falls = rw (next times low high h k) (simp (le-ltb (get_or times low 0) (get_or times low 0) (omega arith)) (omega arith));
       }
 
-  -- one time more
-  pub looked_turn : (fell last i step : ℕ) → i < high → step ≡ fall last (get_or times i 0) → Looked times low high fell last i → Looked times low high (fell + step) (get_or times i 0) (i + 1)
-  unfolding falls_from
-  looked_turn fell last i step h e l =
-      let o : fall last (get_or times i 0) ≤ 1 = once last (get_or times i 0) in
-      record {
-        from = omega (arith, l.from);
-        within = omega arith;
-        few = omega (arith, l.few);
-        falls =
-            let n : falls_from last (take (high - i) (drop i times)) ≡ fall last (get_or times i 0) + falls_from (get_or times i 0) (take (high - (i + 1)) (drop (i + 1) times)) = rw (add-one, next times i high h k) in
-            omega (arith, l.falls, n, e);
-      }
+  module _ {fell last i : ℕ} (l : Looked times low high fell last i) where
+    -- one time more
+    pub looked_turn : (step : ℕ) → i < high → step ≡ fall last (get_or times i 0) → Looked times low high (fell + step) (get_or times i 0) (i + 1)
+    unfolding falls_from
+    looked_turn step h e =
+        let o : fall last (get_or times i 0) ≤ 1 = once last (get_or times i 0) in
+        record {
+          from = omega (arith, l.from);
+          within = omega arith;
+          few = omega (arith, l.few);
+          falls =
+              let n : falls_from last (take (high - i) (drop i times)) ≡ fall last (get_or times i 0) + falls_from (get_or times i 0) (take (high - (i + 1)) (drop (i + 1) times)) = rw (add-one, next times i high h k) in
+              omega (arith, l.falls, n, e);
+        }
 
-  -- no time is left
-  pub looked_end : (fell last i : ℕ) → high ≤ i → Looked times low high fell last i → fell ≡ suc (falls_of (take (high - low) (drop low times)))
-  unfolding falls_from
-  looked_end fell last i h l = let q : high - i ≡ 0 = omega arith in sym (l.falls ∙ rw q (add-zero fell))
+    -- no time is left
+    pub looked_end : high ≤ i → fell ≡ suc (falls_of (take (high - low) (drop low times)))
+    unfolding falls_from
+    looked_end h = let q : high - i ≡ 0 = omega arith in sym (l.falls ∙ rw q (add-zero fell))
 
 -- the ends that count on from one place, and the diffs, so far
 pub record Marked (ends diffs : List ℕ) (low wrong : ℕ) (good : Bool) (i : ℕ) : Type 0 where
@@ -78,23 +81,25 @@ paired true false true d = refl
 paired true false false d = refl
 paired true true c d = refl
 
-module _ (ends diffs : List ℕ) (alike : length ends ≡ length diffs) where
-  -- one end and one diff more
-  pub marked_turn : (low wrong : ℕ) (good : Bool) (i : ℕ) → i < length ends → Marked ends diffs low wrong good i → Marked ends diffs low (bit_or wrong (bit_xor (get_or ends i 0) (i + 1))) (good && not (eqb (get_or diffs i 0) 0)) (i + 1)
-  marked_turn low wrong good i h m =
-      record {
-        marks = m.marks ∙ marked ends i h wrong;
-        stands = m.stands ∙ ap (λ (b : Bool). good && b) (stood diffs i (omega arith)) ∙ and_joins good _ _;
-      }
+-- where all times have a diff the ends step as they rise
+rising : (ends diffs : List ℕ) → length ends ≡ length diffs → (i : ℕ) → i ≤ length ends → ends_step i (drop i ends) (length diffs) ≡ ends_rise i (drop i ends) (length ends)
+rising ends diffs alike i h = rw (sym alike) (steps i (length ends) (drop i ends) (simp length-drop (omega arith)))
 
-  -- where all times have a diff the ends step as they rise
-  rising : (i : ℕ) → i ≤ length ends → ends_step i (drop i ends) (length diffs) ≡ ends_rise i (drop i ends) (length ends)
-  rising i h = rw (sym alike) (steps i (length ends) (drop i ends) (simp length-drop (omega arith)))
+module _ {ends diffs : List ℕ} (alike : length ends ≡ length diffs) where
+  module _ {low wrong i : ℕ} {good : Bool} (m : Marked ends diffs low wrong good i) where
+    -- one end and one diff more
+    pub marked_turn : i < length ends → Marked ends diffs low (bit_or wrong (bit_xor (get_or ends i 0) (i + 1))) (good && not (eqb (get_or diffs i 0) 0)) (i + 1)
+    marked_turn h =
+        record {
+          marks = m.marks ∙ marked ends i h wrong;
+          stands = m.stands ∙ ap (λ (b : Bool). good && b) (stood diffs i (omega arith)) ∙ and_joins good _ _;
+        }
 
-  pub marked_end : (low high wrong : ℕ) (good : Bool) → low ≤ high → high ≤ length ends → Marked ends diffs low wrong good high
-      → changes_hold low (drop low ends) (drop low diffs) (length diffs) ≡ ((eqb wrong 0 && good) && changes_hold high (drop high ends) (drop high diffs) (length diffs))
-  marked_end low high wrong good g h m =
-      rw (rising low (omega arith), rising high h, m.marks, m.stands) (paired (eqb wrong 0) (ends_rise high (drop high ends) (length ends)) good (standing (drop high diffs)))
+    -- as far as the look goes
+    pub marked_end : low ≤ i → i ≤ length ends
+        → changes_hold low (drop low ends) (drop low diffs) (length diffs) ≡ ((eqb wrong 0 && good) && changes_hold i (drop i ends) (drop i diffs) (length diffs))
+    marked_end g h =
+        rw (rising ends diffs alike low (omega arith), rising ends diffs alike i h, m.marks, m.stands) (paired (eqb wrong 0) (ends_rise i (drop i ends) (length ends)) good (standing (drop i diffs)))
 
 -- one end more where no diff is left
 pub stepped_beside : (good : Bool) (ends diffs : List ℕ) (low i top : ℕ) → i < length ends → length diffs ≤ i
@@ -110,13 +115,14 @@ tested_on whole good more left rest h k = h ∙ ap (λ (b : Bool). good && b) k 
 
 -- the test of all times, where no list of them is left
 pub times_end :
-    (time_ends times diff_ends diffs : List ℕ) (good : Bool) (reach done low : ℕ) → length diff_ends ≡ length times → length diffs ≤ length times → length time_ends ≤ done
-    → ends_rise 0 time_ends (length times) ≡ true → Tested time_ends times done low
+    (time_ends times diff_ends diffs : List ℕ) (good : Bool) (reach : ℕ) (left : Chunks ℕ) (low : ℕ) → length diff_ends ≡ length times → length diffs ≤ length times → length (chunks_rest left) ≡ 0
+    → ends_rise 0 time_ends (length times) ≡ true → Tested time_ends times left low
     → changes_hold 0 diff_ends diffs (length diffs) ≡ (good && changes_hold reach (drop low diff_ends) (drop low diffs) (length diffs))
     → (good && eqb reach (length diffs)) ≡ (changes_hold 0 diff_ends diffs (length diffs) && (ends_rise 0 time_ends (length times) && every rises (lists 0 time_ends times)))
 unfolding every lists ends_rise ends_step
-times_end time_ends times diff_ends diffs good reach done low a f h e t w =
-    let d : drop done time_ends ≡ [] = drop_of_length-le time_ends h in
+times_end time_ends times diff_ends diffs good reach left low a f h e t w =
+    let k : length (chunks_rest left) ≤ 0 = omega arith in
+    let d : chunks_rest left ≡ [] = drop_of_length-le (chunks_rest left) k in
     let q : low ≡ length times = eqb-true _ _ (simp d at t.rise) in
     let m : drop low diff_ends ≡ [] = drop_of_length-le diff_ends {i = low} (omega arith) in
     let n : drop low diffs ≡ [] = drop_of_length-le diffs {i = low} (omega arith) in

@@ -6,8 +6,12 @@ use mathlib.Core.List.{List, [], ◌∷◌}
 use native.Mathlib.Omega.{arith}
 use native.Mathlib.Nat.{zero-add, suc-add}
 use borrow.Author.Tests.{eq-eqb, ltb-true}
-use lib.ListN.{length, take, drop, get_or, length-drop}
-use lib.Seq.{drop-drop, take-take, length-take-le, get_or-drop, take-nil}
+use denote.Bor.{Bor}
+use Rattle.std.specs.Prelude.{Some}
+use Rattle.std.specs.declared.slice.Chunks.{Chunks}
+use Rattle.std.specs.Slice.Iter.{chunks_rest, chunks_size, chunks_steps}
+use lib.ListN.{length, take, drop, get_or, get_or-append, length-append}
+use lib.Seq.{drop-drop, take-take, length-take-le, take-nil, take-append_seam, drop-append_seam}
 use lib.Dec.{ltb, eqb}
 use Rattle.chunk.specs.Entry.{every}
 use Rattle.chunk.specs.Words.{ends_rise, rises, lists}
@@ -107,41 +111,64 @@ module _ (ends items : List ℕ) (low m : ℕ) (h : m < length ends) (k : ends_r
       let d : drop (get_or ends m 0 - low) (drop low items) ≡ drop (get_or ends m 0) items = simp (drop-drop, q) in
       simp d at (divided low (length items) ends (drop low items) m h k)
 
--- the test on its way: so many lists are done, and the items up to `low`
-pub record Tested (ends items : List ℕ) (done low : ℕ) : Type 0 where
-  pub within : done ≤ length ends
-  pub rise : ends_rise low (drop done ends) (length items) ≡ true
-  pub whole : every rises (lists 0 ends items) ≡ every rises (lists low (drop done ends) (drop low items))
+-- a part whose last end is past the items before it, and whose lists are all of items
+pub record Next (items part : List ℕ) (low : ℕ) : Type 0 where
+  pub higher : low < get_or part (length part - 1) 0
+  pub within : get_or part (length part - 1) 0 ≤ length items
+  pub ahead : Ahead part (take (get_or part (length part - 1) 0) items)
 
--- the lists up to the next place, `m` and one more, whose last end is `high`
-module _ (ends items : List ℕ) (done low next : ℕ) (t : Tested ends items done low) (there : next ≤ length ends) (m : ℕ) (size : suc m ≡ next - done) where
+-- the test on its way: the parts that are left, and the items up to `low` done
+pub record Tested (ends items : List ℕ) (left : Chunks ℕ) (low : ℕ) : Type 0 where
+  pub sized : 0 < chunks_size left
+  pub rise : ends_rise low (chunks_rest left) (length items) ≡ true
+  pub whole : every rises (lists 0 ends items) ≡ every rises (lists low (chunks_rest left) (drop low items))
+
+-- the next part, whose last end is `high`, and those after it
+module _ {ends items : List ℕ} {parts : Chunks ℕ} {low : ℕ} (after : Chunks ℕ) (next_part : Bor (List ℕ)) (t : Tested ends items parts low) (step : chunks_steps parts (Some next_part) after) where
+  abbrev left : List ℕ
+  left = chunks_rest parts
+
+  abbrev part : List ℕ
+  part = next_part.now
+
+  abbrev m : ℕ
+  m = length part - 1
+
   abbrev high : ℕ
-  high = get_or ends (next - 1) 0
+  high = get_or part m 0
 
-  few : m < length (drop done ends)
-  few = rw (length-drop done ends) (omega arith)
+  size : suc m ≡ length part
+  size = omega (arith, t.sized, step.1.1, step.1.2)
 
-  last : get_or (drop done ends) m 0 ≡ high
-  last = let q : done + m ≡ next - 1 = omega arith in get_or-drop done ends m 0 ∙ rw q
+  few : m < length left
+  few = rw step.1.0 (simp length-append (omega (arith, size)))
 
-  on : drop (suc m) (drop done ends) ≡ drop next ends
-  on = let q : done + suc m ≡ next = omega arith in simp (drop-drop, q)
+  last : get_or left m 0 ≡ high
+  last = rw step.1.0 (get_or-append part (chunks_rest after) 0 m (omega (arith, size)))
 
-  pub next_higher : low < high
-  next_higher = rw (sym last) (cut low (length items) (drop done ends) m few t.rise).higher
+  front-part : take (suc m) left ≡ part
+  front-part = rw (step.1.0, size) (take-append_seam part (chunks_rest after))
 
-  pub next_within : high ≤ length items
-  next_within = rw (sym last) (high-within (drop done ends) items low m few t.rise)
+  on : drop (suc m) left ≡ chunks_rest after
+  on = rw (step.1.0, size) (drop-append_seam part (chunks_rest after))
 
-  pub next_ahead : Ahead (take (next - done) (drop done ends)) (take high items)
-  next_ahead = rw (sym last, sym size) (ahead (drop done ends) items low m few t.rise)
+  -- it ends past the items before it, and its starts are those of items
+  pub next : Next items part low
+  next =
+      record {
+        higher = rw (sym last) (cut low (length items) left m few t.rise).higher;
+        within = rw (sym last) (high-within left items low m few t.rise);
+        ahead = rw (front-part, last) at (ahead left items low m few t.rise);
+      }
 
-  tested : every rises (lists 0 ends items) ≡ (eqb (falls_of (take (high - low) (drop low items))) (falls_at (take (next - done) (drop done ends)) (take high items)) && every rises (lists high (drop next ends) (drop high items)))
-  tested = rw (sym on, sym last, sym size) (t.whole ∙ rest (drop done ends) items low m few t.rise ∙ ap (λ (b : Bool). b && every rises (lists (get_or (drop done ends) m 0) (drop (suc m) (drop done ends)) (drop (get_or (drop done ends) m 0) items))) (part_rises (drop done ends) items low m few t.rise))
+  tested : every rises (lists 0 ends items) ≡ (eqb (falls_of (take (high - low) (drop low items))) (falls_at part (take high items)) && every rises (lists high (chunks_rest after) (drop high items)))
+  tested =
+      rw (front-part, last, on) at
+      (t.whole ∙ rest left items low m few t.rise ∙ ap (λ (b : Bool). b && every rises (lists (get_or left m 0) (drop (suc m) left) (drop (get_or left m 0) items))) (part_rises left items low m few t.rise))
 
   -- where a part has a fall within a list the whole fails, and else it goes on
-  pub falls_within : eqb (falls_of (take (high - low) (drop low items))) (falls_at (take (next - done) (drop done ends)) (take high items)) ≡ false → every rises (lists 0 ends items) ≡ false
+  pub falls_within : eqb (falls_of (take (high - low) (drop low items))) (falls_at part (take high items)) ≡ false → every rises (lists 0 ends items) ≡ false
   falls_within h = tested ∙ simp h
 
-  pub tested_more : eqb (falls_of (take (high - low) (drop low items))) (falls_at (take (next - done) (drop done ends)) (take high items)) ≡ true → Tested ends items next high
-  tested_more h = record { within = there; rise = rw (sym on, sym last) (cut low (length items) (drop done ends) m few t.rise).back; whole = tested ∙ simp h }
+  pub tested_more : eqb (falls_of (take (high - low) (drop low items))) (falls_at part (take high items)) ≡ true → Tested ends items after high
+  tested_more h = record { sized = rw step.0 t.sized; rise = rw (on, last) at (cut low (length items) left m few t.rise).back; whole = tested ∙ simp h }

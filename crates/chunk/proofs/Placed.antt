@@ -1,25 +1,23 @@
 -- A slice cut at the places of its contents gives its bodies, each as long as its count.
 use Prim.Native.Nat.{ℕ, ◌≤◌, ◌+◌, ◌*◌, ◌-◌}
-use mathlib.Core.Path.{◌≡◌, refl}
+use mathlib.Core.Path.{◌≡◌, refl, ◌∙◌}
 use mathlib.Core.Bool.{Bool, true, false}
+use Rattle.std.specs.Prelude.{Option, Some, None}
 use mathlib.Core.List.{List}
 use native.Mathlib.Omega.{arith}
 use lib.ListN.{length, take, drop, length-drop}
 use lib.Seq.{length-take-le}
-use lib.Dec.{leb}
+use lib.Dec.{leb, eqb}
 use borrow.Author.Tests.{leb-true}
 use Rattle.chunk.specs.declared.Contents.{Contents}
-use Rattle.chunk.specs.Words.{body, nk, nv, nt, nd, size, table_size, table_fits, key_body, val_end_body, val_body, time_end_body, time_body, diff_end_body, diff_body}
-use Rattle.chunk.specs.Contents.{Placed, contents_of, pick, layout_of, no_contents}
+use Rattle.chunk.specs.Words.{body, nk, nv, nt, nd, size, table_size, table_fits, settled, key_body, val_end_body, val_body, time_end_body, time_body, diff_end_body, diff_body}
+use Rattle.chunk.specs.Contents.{Placed, contents_of, where_true, contents_in}
 use Rattle.chunk.proofs.Tests.{and_left, and_right}
 
--- the contents of a slice whose table fits are in their places
-pub placed : (w : List ℕ) → table_fits w ≡ true → Placed (contents_of w) w
-unfolding contents_of
+-- where the bodies of a slice stand whose table fits it
+pub placed : (w : List ℕ) → table_fits w ≡ true → Placed (contents_in w) w
 placed w h =
-    let t : table_size ≤ length w = leb-true _ _ (and_left (leb table_size (length w)) _ h) in
-    let s : size w ≤ length w = leb-true _ _ (and_right (leb table_size (length w)) _ h) in
-    rw h (record {
+    record {
       key_count = refl;
       val_count = refl;
       time_count = refl;
@@ -32,18 +30,46 @@ placed w h =
       diff_ends_placed = refl;
       diffs_placed = refl;
       sized = refl;
-      table = t;
-      within = s;
-    })
+      table = leb-true _ _ (and_left (leb table_size (length w)) _ h);
+      within = leb-true _ _ (and_right (leb table_size (length w)) _ h);
+    }
 
--- whether the contents fit is whether the table does
-picked : (b : Bool) (c d : Contents) → c.fits ≡ true → d.fits ≡ false → (pick b c d).fits ≡ b
-picked true c d h k = h
-picked false c d h k = k
+-- contents that were found say that the table fits, and where the bodies stand
+pub record FoundIn (w : List ℕ) (c : Contents) : Type 0 where
+  pub fits : table_fits w ≡ true
+  pub laid : c ≡ contents_in w
 
-pub fits-fits : (w : List ℕ) → (contents_of w).fits ≡ table_fits w
+chosen : (b : Bool) (c d : Contents) → where_true b c ≡ Some d → (b ≡ true) × (d ≡ c)
+chosen true c d h = (refl, cc)
+chosen false c d h = cc
+
+pub found_in : (w : List ℕ) (c : Contents) → contents_of w ≡ Some c → FoundIn w c
 unfolding contents_of
-fits-fits w = picked (table_fits w) (layout_of (nk w) (nv w) (nt w) (nd w)) no_contents refl refl
+found_in w c h =
+    let p = chosen (table_fits w) (contents_in w) c h in
+    record { fits = p.0; laid = p.1 }
+
+pub placed_by : (w : List ℕ) (c : Contents) → contents_of w ≡ Some c → Placed c w
+placed_by w c h = let f = found_in w c h in rw f.laid (placed w f.fits)
+
+-- and where none are found it doesn't
+refused : (b : Bool) (c : Contents) → where_true b c ≡ None → b ≡ false
+refused true c h = cc
+refused false c h = refl
+
+pub unfit : (w : List ℕ) → contents_of w ≡ None → table_fits w ≡ false
+unfolding contents_of
+unfit w h = refused (table_fits w) (contents_in w) h
+
+-- contents whose bodies stand in their places are those that the counts give
+pub laid_by : (c : Contents) (w : List ℕ) → Placed c w → c ≡ contents_in w
+laid_by c w p =
+    let e : c ≡ record { nk = c.nk; nv = c.nv; nt = c.nt; nd = c.nd; keys_at = c.keys_at; val_ends_at = c.val_ends_at; vals_at = c.vals_at; time_ends_at = c.time_ends_at; times_at = c.times_at; diff_ends_at = c.diff_ends_at; diffs_at = c.diffs_at; size = c.size } = refl in
+    e ∙ rw (p.key_count, p.val_count, p.time_count, p.diff_count, p.keys_placed, p.val_ends_placed, p.vals_placed, p.time_ends_placed, p.times_placed, p.diff_ends_placed, p.diffs_placed, p.sized)
+
+-- and as many diffs as times make them settled
+pub settles_by : (c : Contents) (w : List ℕ) → Placed c w → eqb c.nd c.nt ≡ settled w
+settles_by c w p = rw (p.diff_count, p.time_count)
 
 cut : (w : List ℕ) (a e at n : ℕ) → a ≡ at → e ≡ at + n → take (e - a) (drop a w) ≡ body at n w
 cut w a e at n h k = let q : e - a ≡ n = omega arith in rw (q, h)

@@ -48,13 +48,9 @@ pub record Reading (keys val_ends time_ends diff_ends diffs : List ℕ) (fell la
   pub end_marks : Marking diff_ends ends i
   pub stands : standing diffs ≡ (good && standing (drop i diffs))
 
-module _ (keys val_ends time_ends diff_ends diffs : List ℕ) (rows : Rows keys val_ends time_ends diff_ends diffs) where
-  pub reading_starts : Reading keys val_ends time_ends diff_ends diffs 0 0 0 0 0 true 0
-  reading_starts =
-      record { within = omega arith; few = omega arith; falls = omega arith; marks = refl; time_marks = refl; end_marks = refl; stands = refl }
-
+module _ {keys val_ends time_ends diff_ends diffs : List ℕ} (rows : Rows keys val_ends time_ends diff_ends diffs) where
   -- one row more
-  module _ (fell last vals times ends : ℕ) (good : Bool) (i : ℕ) (h : i < length keys) (r : Reading keys val_ends time_ends diff_ends diffs fell last vals times ends good i) where
+  module _ {fell last vals times ends : ℕ} {good : Bool} {i : ℕ} (h : i < length keys) (r : Reading keys val_ends time_ends diff_ends diffs fell last vals times ends good i) where
     pub reading_turn : (f : ℕ) → f ≡ fall last (get_or keys i 0)
         → Reading keys val_ends time_ends diff_ends diffs (fell + f) (get_or keys i 0) (bit_or vals (bit_xor (get_or val_ends i 0) (i + 1)))
         (bit_or times (bit_xor (get_or time_ends i 0) (i + 1))) (bit_or ends (bit_xor (get_or diff_ends i 0) (i + 1))) (good && not (eqb (get_or diffs i 0) 0)) (i + 1)
@@ -71,7 +67,7 @@ module _ (keys val_ends time_ends diff_ends diffs : List ℕ) (rows : Rows keys 
         }
 
   -- no row is left
-  module _ (fell last vals times ends : ℕ) (good : Bool) (i : ℕ) (h : length keys ≤ i) (r : Reading keys val_ends time_ends diff_ends diffs fell last vals times ends good i) where
+  module _ {fell last vals times ends : ℕ} {good : Bool} {i : ℕ} (h : length keys ≤ i) (r : Reading keys val_ends time_ends diff_ends diffs fell last vals times ends good i) where
     at_end : i ≡ length keys
     at_end = omega (arith, r.within)
 

@@ -1,12 +1,12 @@
 -- Well formed, taken apart into its ten tests and put together again.
 use Prim.Native.Nat.{ℕ}
-use mathlib.Core.Path.{◌≡◌, sym}
+use mathlib.Core.Path.{◌≡◌, sym, ◌∙◌}
 use mathlib.Core.Bool.{true, false, not}
 use mathlib.Core.List.{List}
 use lib.Dec.{leb, eqb}
 use Rattle.chunk.specs.Entry.{every}
 use Rattle.chunk.specs.Words.{well_formed, table_fits, nk, nv, nt, nd, limit, all_or_none, ends_rise, ends_step, rises, lists, key_body, val_end_body, val_body, time_end_body, time_body, diff_end_body, diff_body}
-use Rattle.chunk.proofs.Tests.{by_test, and_left, and_right}
+use Rattle.chunk.proofs.Tests.{by_test, true-not-false, and_left, and_right}
 
 -- the ten tests of a well formed slice
 pub record Parts (w : List ℕ) : Type 0 where
@@ -52,3 +52,7 @@ whole w p = simp (p.table_fits, p.few, p.counts, p.val_ends_rise, p.time_ends_ri
 -- not well formed, where one of them fails
 pub refuted : (w : List ℕ) → (Parts w → ⊥) → false ≡ well_formed w
 refuted w f = by_test (well_formed w) (λ h. absurd (f (parts w h))) (λ h. sym h)
+
+-- words whose table doesn't fit are not well formed
+pub unfitting : (w : List ℕ) → table_fits w ≡ false → well_formed w ≡ false
+unfitting w h = sym (refuted w (λ p. true-not-false (sym p.table_fits ∙ h)))

@@ -1,6 +1,6 @@
 -- The contents table as the code hands it on (document 01, "A chunk in words"): the four counts, the place of each body, and the
 -- chunk's size. Nothing outside this crate adds up a place by itself.
-use Rattle.std.specs.Prelude.{ℕ, zero, suc, ◌+◌, ◌*◌, ◌≤◌, Bool, true, false, cond, ◌&&◌, ◌≡◌, List, [], ◌∷◌, leb, ltb, length, get_or}
+use Rattle.std.specs.Prelude.{ℕ, zero, suc, ◌+◌, ◌*◌, ◌≤◌, Bool, true, false, cond, ◌&&◌, ◌≡◌, List, [], ◌∷◌, leb, ltb, length, get_or, Option, Some, None}
 use Rattle.chunk.specs.declared.Contents.{Contents}
 use Rattle.chunk.specs.declared.Range.{Range}
 use Rattle.chunk.specs.Words.{nk, nv, nt, nd, table_size, table_fits, size, limit, over}
@@ -9,7 +9,6 @@ use Rattle.chunk.specs.Words.{nk, nv, nt, nd, table_size, table_fits, size, limi
 abbrev pub layout_of : ℕ → ℕ → ℕ → ℕ → Contents
 layout_of k v t d =
     record {
-      fits = true;
       nk = k;
       nv = v;
       nt = t;
@@ -24,37 +23,22 @@ layout_of k v t d =
       size = table_size + 2 * k + 2 * v + 2 * t + d;
     }
 
--- nothing that fits
-abbrev pub no_contents : Contents
-no_contents =
-    record {
-      fits = false;
-      nk = 0;
-      nv = 0;
-      nt = 0;
-      nd = 0;
-      keys_at = 0;
-      val_ends_at = 0;
-      vals_at = 0;
-      time_ends_at = 0;
-      times_at = 0;
-      diff_ends_at = 0;
-      diffs_at = 0;
-      size = 0;
-    }
+-- the contents that the front of a slice says
+abbrev pub contents_in : List ℕ → Contents
+contents_in w = layout_of (nk w) (nv w) (nt w) (nd w)
 
--- one or the other
-abbrev pub pick : Bool → Contents → Contents → Contents
-pick true a b = a
-pick false a b = b
+-- contents, or none
+abbrev pub where_true : Bool → Contents → Option Contents
+where_true true c = Some c
+where_true false c = None
 
 -- what the front of a slice says, where its table fits it
-unfoldable pub contents_of : List ℕ → Contents
-contents_of w = pick (table_fits w) (layout_of (nk w) (nv w) (nt w) (nd w)) no_contents
+unfoldable pub contents_of : List ℕ → Option Contents
+contents_of w = where_true (table_fits w) (contents_in w)
 
 -- where the bodies of an output stand, for counts that a chunk can have
-unfoldable pub layout_within : ℕ → ℕ → ℕ → ℕ → Contents
-layout_within k v t d = pick (leb k limit && (leb v limit && (leb t limit && leb d limit))) (layout_of k v t d) no_contents
+unfoldable pub layout_within : ℕ → ℕ → ℕ → ℕ → Option Contents
+layout_within k v t d = where_true (leb k limit && (leb v limit && (leb t limit && leb d limit))) (layout_of k v t d)
 
 -- the table's own words
 abbrev pub table_of : ℕ → ℕ → ℕ → ℕ → List ℕ

@@ -9,3 +9,4 @@ pub mod Rows
 pub mod Refusal
 pub mod Check
 pub mod Sums
+pub mod Answer

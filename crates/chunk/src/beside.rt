@@ -4,7 +4,7 @@ ghost use Rattle.chunk.specs.Beside.{changes_hold, Beside, LookFrom};
 ghost use Rattle.chunk.specs.Entry.{every};
 ghost use Rattle.chunk.specs.Words.{rises, ends_rise, lists};
 
-use crate::{ends_rise, fall_of, falls_at, part_end, steps};
+use crate::{PART, ends_rise, fall_of, falls_at, steps};
 
 // What a look over times finds: how many of them are falls, the first counted as one; whether the changes beside them hold; and how many diffs have ended.
 #[derive(Clone, Copy)]
@@ -15,6 +15,7 @@ struct Seen {
 }
 
 // A look over a range of times that all have a diff: the ends count on, and no diff is 0.
+// Kept: `look_stepping` finds the same, more slowly: by it alone the check of a settled chunk took 1.59 ns for each time in place of 1.30 with four times a list, and 1.19 in place of 0.82 with 500.
 fn look_settled(times: &[u64], ends: &[u64], diffs: &[u64], low: usize, high: usize) -> Seen
     requires { Beside times.now ends.now diffs.now low high × (length ends.now ≡ length diffs.now) }
     ensures { LookFrom result times.now ends.now diffs.now low high low }
@@ -23,30 +24,18 @@ fn look_settled(times: &[u64], ends: &[u64], diffs: &[u64], low: usize, high: us
     let mut last = times[low];
     let mut wrong = 0;
     let mut good = true;
-    let mut i = low;
-    while i < high {
+    for i in low..high {
         let next = times[i];
         fell += fall_of(last, next);
         last = next;
         wrong |= ends[i] ^ (i as u64 + 1);
-        good = good & (diffs[i] != 0);
-        i += 1;
+        good &= diffs[i] != 0;
     }
     Seen {
         fell,
         good: (wrong == 0) & good,
         reach: high as u64,
     }
-}
-
-// The lesser of two numbers.
-fn lesser(m: usize, n: usize) -> usize
-    ensures { (result ≤ m) × ((result ≤ n) × (result < m → n ≤ result)) }
-{
-    if m < n {
-        return m;
-    }
-    n
 }
 
 // A look over a range of times of which some have no diff, where the diff ends have reached a count: the ends step on, and no diff is 0. As many diffs as there are stand beside the first times.
@@ -61,29 +50,26 @@ fn look_stepping(
     requires { Beside times.now ends.now diffs.now low high }
     ensures { LookFrom result times.now ends.now diffs.now low high reach }
 {
-    let both = lesser(high, diffs.len());
+    let both = diffs.len().clamp(low, high);
     let mut fell = 0;
     let mut last = times[low];
     let mut end = reach;
     let mut good = true;
-    let mut i = low;
-    while i < both {
+    for i in low..both {
         let next = times[i];
         fell += fall_of(last, next);
         last = next;
         let step = ends[i];
-        good = good & (steps(end, step) & (diffs[i] != 0));
+        good &= steps(end, step) & (diffs[i] != 0);
         end = step;
-        i += 1;
     }
-    while i < high {
+    for i in both..high {
         let next = times[i];
         fell += fall_of(last, next);
         last = next;
         let step = ends[i];
-        good = good & steps(end, step);
+        good &= steps(end, step);
         end = step;
-        i += 1;
     }
     Seen {
         fell,
@@ -93,6 +79,7 @@ fn look_stepping(
 }
 
 // A look over a range of times, where the diff ends have reached a count.
+// Kept: the three bodies and the range go on by themselves, since a struct of them would be made for the one call of this function alone.
 fn look(times: &[u64], ends: &[u64], diffs: &[u64], low: usize, high: usize, reach: u64) -> Seen
     requires { Beside times.now ends.now diffs.now low high }
     ensures { LookFrom result times.now ends.now diffs.now low high reach }
@@ -104,6 +91,7 @@ fn look(times: &[u64], ends: &[u64], diffs: &[u64], low: usize, high: usize, rea
 }
 
 // Whether the lists of times rise, and the changes beside them hold. The lists are taken part by part, so that a part's times are at hand when the starts of its lists are read.
+// Kept: `lists_rise` counts a part's falls alone; one function for both would take the look as a closure with its contract, and `lists_rise` a `Seen` of which it uses one field.
 pub(crate) fn times_hold(time_ends: &[u64], times: &[u64], diff_ends: &[u64], diffs: &[u64]) -> bool
     requires { (length diff_ends.now ≡ length times.now) × (length diffs.now ≤ length times.now) }
     ensures { result ≡ (changes_hold 0 diff_ends.now diffs.now (length diffs.now) && (ends_rise 0 time_ends.now (length times.now) && every rises (lists 0 time_ends.now times.now))) }
@@ -113,19 +101,15 @@ pub(crate) fn times_hold(time_ends: &[u64], times: &[u64], diff_ends: &[u64], di
     }
     let mut good = true;
     let mut reach = 0;
-    let mut done = 0;
     let mut low = 0;
-    while done < time_ends.len() {
-        let next = part_end(done, time_ends.len());
-        let high = time_ends[next - 1] as usize;
+    for part in time_ends.chunks(PART) {
+        let high = part[part.len() - 1] as usize;
         let seen = look(times, diff_ends, diffs, low, high, reach);
-        let fell = seen.fell - 1;
-        if fell != falls_at(&time_ends[done..next], &times[0..high]) {
+        if seen.fell - 1 != falls_at(part, &times[..high]) {
             return false;
         }
-        good = good & seen.good;
+        good &= seen.good;
         reach = seen.reach;
-        done = next;
         low = high;
     }
     good & (reach == diffs.len() as u64)

@@ -4,8 +4,9 @@ use Rattle.std.proofs.Common.{◌≡◌, ℕ, suc, ◌+◌, Bool, true, false, c
 use Rattle.chunk.specs.Entry.{Entry, same_list, stands, keep, every}
 use Rattle.chunk.specs.Bodies.{lasts_of, same_key, keys, vals, times, diffs, ends_of, val_ends, time_ends, diff_ends_from, diff_ends}
 use Rattle.laws.proofs.Tests.{by_test, and_left, and_right}
+use Rattle.sort.specs.Sort.{entry_of}
 use Rattle.form.specs.declared.Counts.{Counts}
-use Rattle.form.specs.Pass.{entry_of, no_counts, counted, opens_key, opens_val, Some}
+use Rattle.form.specs.Pass.{no_counts, counted, opens_key, opens_val, Some}
 use Rattle.form.proofs.Runs.{run, runs, some_more, some_first}
 
 -- an entry moves on from every entry before it

@@ -1,54 +1,31 @@
 -- What is left of a pass: the whole answer is the answer on the updates that are left, with the pending one in front.
 -- Each law unfolds a definition by one update, or ends it.
-use Rattle.std.proofs.Common.{◌≡◌, ℕ, suc, ◌+◌, ◌^◌, ◌<◌, ◌≤◌, Bool, true, false, ◌&&◌, ◌||◌, List, [], ◌∷◌, length, get_or, drop, ℤ, sym, refl, ap, ◌∙◌, zero-le, add-one, arith, length-drop, drop-cons, w64, of_z, le-ltb}
-use native.Mathlib.Numerals.{add-two, add-three, add-four}
+use Rattle.std.proofs.Common.{◌≡◌, ℕ, ◌+◌, ◌^◌, ◌<◌, ◌≤◌, Bool, true, false, ◌&&◌, ◌||◌, List, [], ◌∷◌, length, get_or, drop, ℤ, sym, refl, ap, ◌∙◌, zero-le, add-one, arith, drop-cons, w64, of_z, le-ltb}
+use lib.ListN.{drop_of_length-le}
 use mir.ValLaws.{of_z-to_z}
 use lib.IntN.{+ℤ_idl}
 use Rattle.chunk.specs.declared.Contents.{Contents}
 use Rattle.chunk.specs.Entry.{Entry, change, before, same, stands, every}
 use Rattle.chunk.specs.Sums.{plus}
 use Rattle.chunk.specs.Refusal.{first}
-use Rattle.sort.specs.Sort.{updates}
+use Rattle.sort.specs.Sort.{entry_of, nth, updates}
 use Rattle.laws.proofs.Tests.{by_test, and-false}
 use Rattle.laws.proofs.Order.{Same, same_parts}
-use Rattle.form.specs.declared.Update.{Update}
+use Rattle.sort.specs.declared.Update.{Update}
 use Rattle.form.specs.declared.Counts.{Counts}
-use Rattle.form.specs.declared.Sizes.{Sizes}
 use Rattle.form.specs.Form.{consolidated, formed, falls, in_range}
-use Rattle.form.specs.Pass.{entry_of, update_at, no_update, joined, count_from, write_from, pushed, pushed_out, next_counts, next_pending, next_out, survey_number, final_counts, sizes_of, Surveyed}
-use Rattle.form.specs.Tally.{no_sizes}
+use Rattle.form.specs.Pass.{no_update, joined, count_from, write_from, pushed, pushed_out, next_counts, next_pending, next_out, survey_number}
 use Rattle.form.proofs.Formed.{falls-same}
 
--- ---- the words that are left
-
-drop_four : (w : List ℕ) (i : ℕ) → i + 3 < length w → drop i w ≡ get_or w i 0 ∷ get_or w (i + 1) 0 ∷ get_or w (i + 2) 0 ∷ get_or w (i + 3) 0 ∷ drop (i + 4) w
-drop_four w i h =
-    let h0 : i < length w = omega arith in
-    let h1 : suc i < length w = omega arith in
-    let h2 : suc (suc i) < length w = omega arith in
-    let h3 : suc (suc (suc i)) < length w = omega arith in
-    rw (add-one i, add-two i, add-three i, add-four i) (
-    drop-cons w i 0 h0
-    ∙ ap (λ (l : List ℕ). get_or w i 0 ∷ l) (drop-cons w (suc i) 0 h1
-    ∙ ap (λ (l : List ℕ). get_or w (suc i) 0 ∷ l) (drop-cons w (suc (suc i)) 0 h2
-    ∙ ap (λ (l : List ℕ). get_or w (suc (suc i)) 0 ∷ l) (drop-cons w (suc (suc (suc i))) 0 h3))))
+-- ---- the updates that are left
 
 -- one update more
-pub turn : (w : List ℕ) (i : ℕ) → i + 3 < length w → updates (drop i w) ≡ entry_of (update_at w i) ∷ updates (drop (i + 4) w)
-unfolding updates
-turn w i h = rw (drop_four w i h)
-
-short : (l : List ℕ) → length l ≤ 3 → updates l ≡ []
-unfolding updates
-short [] h = refl
-short (a ∷ []) h = refl
-short (a ∷ b ∷ []) h = refl
-short (a ∷ b ∷ d ∷ []) h = refl
-short (a ∷ b ∷ d ∷ e ∷ l) h = absurd (omega arith)
+pub turn : (es : List Entry) (i : ℕ) → i < length es → drop i es ≡ nth es i ∷ drop (i + 1) es
+turn es i h = rw (add-one i) (drop-cons es i _ h)
 
 -- no update more
-pub done : (w : List ℕ) (i : ℕ) → length w ≤ i + 3 → updates (drop i w) ≡ []
-done w i h = short (drop i w) (simp length-drop (omega arith))
+pub done : (es : List Entry) (i : ℕ) → length es ≤ i → drop i es ≡ []
+done es i h = drop_of_length-le es {i = i} h
 
 -- ---- the start
 
@@ -65,17 +42,22 @@ zero-first b h l =
     let p : plus 0 b.diff ≡ b.diff = plus-zero b.diff l in
     λ i. record { key = s.key i; val = s.val i; time = s.time i; diff = p i }
 
-pub starts : (w : List ℕ) → get_or w 3 0 < 2 ^ 64 → formed (updates w) ≡ consolidated none (updates w)
-unfolding updates formed consolidated
+pub starts : (es : List Entry) → (nth es 0).diff < 2 ^ 64 → formed es ≡ consolidated none es
+unfolding formed consolidated
 starts [] h = refl
-starts (a ∷ []) h = refl
-starts (a ∷ b ∷ []) h = refl
-starts (a ∷ b ∷ d ∷ []) h = refl
-starts (k ∷ v ∷ t ∷ d ∷ w) h =
-    let b : Entry = record { key = k; val = v; time = t; diff = d } in
+starts (b ∷ es) h =
     by_test (same none b)
-    (λ (s : same none b ≡ true). rw s (ap (λ (e : Entry). consolidated e (updates w)) (sym (zero-first b s h))))
+    (λ (s : same none b ≡ true). rw s (ap (λ (e : Entry). consolidated e es) (sym (zero-first b s h))))
     (λ (s : same none b ≡ false). rw s)
+
+-- the first update's diff is a word
+pub first_word : (w : List ℕ) → get_or w 3 0 < 2 ^ 64 → (nth (updates w) 0).diff < 2 ^ 64
+unfolding updates
+first_word [] h = omega arith
+first_word (a ∷ []) h = omega arith
+first_word (a ∷ b ∷ []) h = omega arith
+first_word (a ∷ b ∷ d ∷ []) h = omega arith
+first_word (k ∷ v ∷ t ∷ d ∷ w) h = h
 
 pub starts-falls : (es : List Entry) → falls es ≡ falls (none ∷ es)
 unfolding falls
@@ -131,35 +113,29 @@ range_turn t b es = and_assoc t (in_range b) (every in_range es)
 -- ---- what the first pass answers
 
 module _ (es : List Entry) where
-  pub answers_3 : falls es ≡ true → Surveyed es (record { number = 3; sizes = no_sizes })
+  pub answers_3 : falls es ≡ true → 3 ≡ survey_number es
   unfolding survey_number first
-  answers_3 h = record { number = rw h; sizes = λ z. absurd (three (rw h at z)) }
-    where
-      three : ◌≡◌ {A = ℕ} 3 0 → ⊥
-      three q = omega arith
+  answers_3 h = rw h
 
-  pub answers_4 : falls es ≡ false → every in_range es ≡ false → Surveyed es (record { number = 4; sizes = no_sizes })
+  pub answers_4 : falls es ≡ false → every in_range es ≡ false → 4 ≡ survey_number es
   unfolding survey_number first
-  answers_4 h k = record { number = rw (h, k); sizes = λ z. absurd (four (rw (h, k) at z)) }
-    where
-      four : ◌≡◌ {A = ℕ} 4 0 → ⊥
-      four q = omega arith
+  answers_4 h k = rw (h, k)
 
-  pub answers_0 : (s : Sizes) → falls es ≡ false → every in_range es ≡ true → s ≡ sizes_of (final_counts es) → Surveyed es (record { number = 0; sizes = s })
+  pub answers_0 : falls es ≡ false → every in_range es ≡ true → survey_number es ≡ 0
   unfolding survey_number first
-  answers_0 s h k q = record { number = rw (h, k); sizes = λ z. q }
+  answers_0 h k = rw (h, k)
 
 -- ---- the range alone
 
-pub range_more : (w : List ℕ) (at : ℕ) (t : Bool) (u : Update) → at + 3 < length w → u ≡ update_at w at
-    → (t && every in_range (updates (drop at w))) ≡ ((t && in_range (entry_of u)) && every in_range (updates (drop (at + 4) w)))
-range_more w at t u h q =
-    ap (λ (es : List Entry). t && every in_range es) (turn w at h ∙ ap (λ (x : Update). entry_of x ∷ updates (drop (at + 4) w)) (sym q))
-    ∙ range_turn t (entry_of u) (updates (drop (at + 4) w))
+pub range_more : (es : List Entry) (i : ℕ) (t : Bool) (u : Update) → i < length es → entry_of u ≡ nth es i
+    → (t && every in_range (drop i es)) ≡ ((t && in_range (entry_of u)) && every in_range (drop (i + 1) es))
+range_more es i t u h q =
+    ap (λ (l : List Entry). t && every in_range l) (turn es i h ∙ ap (λ (e : Entry). e ∷ drop (i + 1) es) (sym q))
+    ∙ range_turn t (entry_of u) (drop (i + 1) es)
 
-pub range_done : (w : List ℕ) (at : ℕ) (t : Bool) → length w ≤ at + 3 → (t && every in_range (updates (drop at w))) ≡ t
+pub range_done : (es : List Entry) (i : ℕ) (t : Bool) → length es ≤ i → (t && every in_range (drop i es)) ≡ t
 unfolding every
-range_done w at t h = ap (λ (es : List Entry). t && every in_range es) (done w at h) ∙ and-true t
+range_done es i t h = ap (λ (l : List Entry). t && every in_range l) (done es i h) ∙ and-true t
   where
     and-true : (b : Bool) → (b && true) ≡ b
     and-true true = refl

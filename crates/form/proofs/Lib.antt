@@ -4,7 +4,6 @@ pub mod Chunk
 pub mod Formed
 pub mod Parts
 pub mod Left
-pub mod Range
 pub mod Runs
 pub mod Says
 pub mod Sorted

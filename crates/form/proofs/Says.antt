@@ -12,12 +12,13 @@ use Rattle.laws.proofs.Tests.{by_test}
 use Rattle.laws.proofs.OneChunk.{chunk_says, settled_stands}
 use Rattle.sort.specs.Sort.{updates, words_of, not_after, insert, sort}
 use Rattle.sort.specs.Heap.{Perm, nil, cons, swap, trans}
+use Rattle.sort.proofs.Updates.{count_whole}
 use Rattle.sort.proofs.Perms.{perm_length, sort_perm}
 use Rattle.form.specs.Form.{formed, falls, in_range, kept, form_number, form_out, unsorted_number, unsorted_out, unsorted_updates}
 use Rattle.form.specs.Theorems.{SaysSums, FormSays, UnsortedSays, UnsortedPermuted}
 use Rattle.form.proofs.Formed.{formed_rises, formed-stands, formed-length, formed-total, words_fit, stood, fronted}
 use Rattle.form.proofs.Sorted.{and_swap, sort_unfallen, sort-every, sort-length}
-use Rattle.form.proofs.Whole.{updates-length, room_tests}
+use Rattle.form.proofs.Whole.{room_tests}
 
 -- ---- a position's sum does not go by the order
 
@@ -71,7 +72,7 @@ after n true ts h = absurd (omega arith)
 after n false ts h = h
 
 few : (us : List ℕ) → ltb limit (length us / 4) ≡ false → length (updates us) ≤ limit
-few us h = let l : length us / 4 ≤ limit = ltb-false _ _ h in omega (arith, updates-length us)
+few us h = let l : length us / 4 ≤ limit = ltb-false _ _ h in omega (arith, count_whole us)
 
 pub form_says : FormSays
 unfolding form_number form_out written
@@ -122,7 +123,7 @@ number_by_lem us out = refl
 pub unsorted_permuted : UnsortedPermuted
 unfolding unsorted_out unsorted_updates
 unsorted_permuted us vs out wu wv p w =
-    let e : length us / 4 ≡ length vs / 4 = sym (updates-length us) ∙ perm_length p ∙ updates-length vs in
+    let e : length us / 4 ≡ length vs / 4 = count_whole us ∙ perm_length p ∙ sym (count_whole vs) in
     let s : sort (updates us) ≡ sort (updates vs) = sort_perm p (words_fit (updates us) w) in
     let n : unsorted_number us out ≡ unsorted_number vs out =
     number_by_lem us out ∙ (λ i. number_by out ((wu ∙ sym wv) i) (e i) (every_perm in_range p i)) ∙ sym (number_by_lem vs out) in

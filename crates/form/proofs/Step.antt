@@ -1,55 +1,11 @@
--- One step of a pass: an entry pushed if it stands, an update taken, and what the counts keep on the way.
-use Rattle.std.proofs.Common.{◌≡◌, ℕ, ◌+◌, ◌≤◌, min, Bool, true, false, cond, not, eqb, List, refl, arith, eq-eqb, ne_eqb}
+-- One step of a pass: what the counts keep on the way.
+use Rattle.std.proofs.Common.{◌≡◌, ℕ, ◌+◌, ◌≤◌, min, Bool, true, false, cond, not, eqb, refl, arith}
 use borrow.Author.Tests.{eqb-false}
-use Rattle.chunk.specs.declared.Contents.{Contents}
 use Rattle.chunk.specs.Entry.{Entry, same, stands}
 use Rattle.laws.proofs.Tests.{by_test}
 use Rattle.form.specs.declared.Counts.{Counts}
-use Rattle.form.specs.Pass.{counted, opens_key, opens_val, pushed, pushed_out, stored, next_counts, next_pending, next_out, joined, Counting, Some}
+use Rattle.form.specs.Pass.{counted, opens_key, opens_val, pushed, next_counts, Counting, Some}
 use Rattle.form.proofs.Formed.{or_left}
-
-module _ (c : Counts) (e : Entry) where
-  -- a zero sum is passed over
-  zero_stays : e.diff ≡ 0 → stands e ≡ false
-  zero_stays h = simp (eq-eqb _ _ h)
-
-  some-stands : (e.diff ≡ 0 → ⊥) → stands e ≡ true
-  some-stands h = simp (ne_eqb _ _ h)
-
-  pub passed : e.diff ≡ 0 → c ≡ pushed c e
-  passed h = rw (zero_stays h)
-
-  pub pushes : (e.diff ≡ 0 → ⊥) → counted c e ≡ pushed c e
-  pushes h = rw (some-stands h)
-
-  pub passed-out : (p : Contents) (out : List ℕ) → e.diff ≡ 0 → out ≡ pushed_out p c e out
-  passed-out p out h = rw (zero_stays h)
-
-  pub pushes_out : (p : Contents) (out : List ℕ) → (e.diff ≡ 0 → ⊥) → stored p (counted c e) out ≡ pushed_out p c e out
-  pushes_out p out h = rw (some-stands h)
-
--- ---- one update taken
-
-module _ (c : Counts) (a b : Entry) where
-  pub joins_counts : same a b ≡ true → c ≡ next_counts c a b
-  joins_counts h = rw h
-
-  pub joins_pending : same a b ≡ true → joined a b ≡ next_pending a b
-  joins_pending h = rw h
-
-  pub joins_out : (p : Contents) (out : List ℕ) → same a b ≡ true → out ≡ next_out p c a b out
-  joins_out p out h = rw h
-
-  pub moves_counts : same a b ≡ false → pushed c a ≡ next_counts c a b
-  moves_counts h = rw h
-
-  pub moves_pending : same a b ≡ false → b ≡ next_pending a b
-  moves_pending h = rw h
-
-  pub moves_out : (p : Contents) (out : List ℕ) → same a b ≡ false → pushed_out p c a out ≡ next_out p c a b out
-  moves_out p out h = rw h
-
--- ---- the counts on the way
 
 -- a test that adds one or none
 one_or-none : (t : Bool) (n m : ℕ) → n ≤ m → cond t (n + 1) n ≤ m + 1

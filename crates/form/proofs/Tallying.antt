@@ -1,20 +1,20 @@
--- The first pass on its way through the words: with the updates that are left it gives the tests of all updates and, where no position
+-- The first pass on its way through the updates: with the updates that are left it gives the tests of all updates and, where no position
 -- falls, the sizes of all that is formed. There the last entry counted has at most the pending position, so one with another key or value
 -- than the pending one's is not met again.
-use Rattle.std.proofs.Common.{◌≡◌, ℕ, ◌+◌, ◌^◌, ◌<◌, ◌≤◌, Bool, true, false, cond, not, ◌&&◌, ◌||◌, eqb, ltb, List, [], ◌∷◌, length, get_or, drop, sym, refl, ap, ◌∙◌, subst, add-zero, arith, ltb-false, eq-eqb, ne_eqb, eqb-true}
+use Rattle.std.proofs.Common.{◌≡◌, ℕ, ◌+◌, ◌^◌, ◌<◌, ◌≤◌, Bool, true, false, cond, not, ◌&&◌, ◌||◌, eqb, ltb, List, [], ◌∷◌, length, drop, sym, refl, ap, ◌∙◌, subst, add-zero, arith, ltb-false, eq-eqb, ne_eqb, eqb-true}
 use mathlib.Core.Bool.{or-true}
 use borrow.Author.Tests.{eqb-false}
 use Rattle.chunk.specs.Entry.{Entry, before, same, same_list, stands, every}
-use Rattle.sort.specs.Sort.{updates}
+use Rattle.sort.specs.Sort.{entry_of, nth}
 use Rattle.laws.proofs.Tests.{by_test, and_left, and_right, or-false}
 use Rattle.laws.proofs.Order.{same_parts}
-use Rattle.form.specs.declared.Update.{Update}
+use Rattle.sort.specs.declared.Update.{Update}
 use Rattle.form.specs.declared.Counts.{Counts}
 use Rattle.form.specs.declared.Sizes.{Sizes}
 use Rattle.form.specs.declared.Tally.{Tally}
 use Rattle.form.specs.Form.{consolidated, falls, in_range}
-use Rattle.form.specs.Pass.{entry_of, update_at, no_update, no_counts, counted, opens_key, opens_val, count_from, next_counts, next_pending, final_counts, sizes_of}
-use Rattle.form.specs.Tally.{bit, no_sizes, no_tally, sizes_after, ends_at, tallied, tally_from, Sized}
+use Rattle.form.specs.Pass.{no_counts, counted, opens_key, opens_val, count_from, next_counts, next_pending, final_counts, sizes_of}
+use Rattle.form.specs.Tally.{bit, no_tally, sizes_after, ends_at, tallied, tally_from, Sized}
 use Rattle.form.proofs.Formed.{or_left, or_right}
 use Rattle.form.proofs.Left.{turn, done, starts, starts-falls, count_turn, count_done, falls-turn, range_more, range_done}
 
@@ -168,73 +168,66 @@ found c t (e ∷ es) f h =
 
 -- ---- on the way
 
-pub record Surveying (w : List ℕ) (at : ℕ) (t : Tally) (fell inside : Bool) : Type 0 where
-  pub within : at ≤ length w
-  pub sized : Sized at t.sizes
-  pub sizes : falls (updates w) ≡ false → sizes_of (final_counts (updates w)) ≡ tally_from t (updates (drop at w))
-  pub falling : falls (updates w) ≡ (fell || falls (entry_of t.pending ∷ updates (drop at w)))
-  pub ranging : every in_range (updates w) ≡ (inside && every in_range (updates (drop at w)))
+pub record Surveying (es : List Entry) (i : ℕ) (t : Tally) (fell inside : Bool) : Type 0 where
+  pub sized : Sized i t.sizes
+  pub sizes : falls es ≡ false → sizes_of (final_counts es) ≡ tally_from t (drop i es)
+  pub falling : falls es ≡ (fell || falls (entry_of t.pending ∷ drop i es))
+  pub ranging : every in_range es ≡ (inside && every in_range (drop i es))
 
 -- before the first entry there is none whose lists another one would not open
 first_follows : Follows no_counts no_tally.sizes false false (entry_of no_tally.pending)
 first_follows = record { sizes = refl; key = refl; val = refl; order = record { key = omega arith; val = λ q. omega arith } }
 
-pub surveying_starts : (w : List ℕ) → get_or w 3 0 < 2 ^ 64 → Surveying w 0 no_tally false true
-surveying_starts w h =
+pub surveying_starts : (es : List Entry) → (nth es 0).diff < 2 ^ 64 → Surveying es 0 no_tally false true
+surveying_starts es h =
     record {
-      within = omega arith;
       sized = record { keys = omega arith; vals = omega arith; times = omega arith };
       sizes = λ k.
-          ap (λ (es : List Entry). sizes_of (count_from no_counts es)) (starts w h)
-          ∙ sym (found no_counts no_tally (updates w) first_follows (sym (starts-falls (updates w)) ∙ k));
-      falling = starts-falls (updates w);
+          ap (λ (l : List Entry). sizes_of (count_from no_counts l)) (starts es h)
+          ∙ sym (found no_counts no_tally es first_follows (sym (starts-falls es) ∙ k));
+      falling = starts-falls es;
       ranging = refl;
     }
-
--- a state made of its parts
-pub start_is : (s : Sizes) (u : Update) → s ≡ no_sizes → u ≡ no_update → record { sizes = s; pending = u; keyed = false; valued = false } ≡ no_tally
-start_is s u h k = λ i. record { sizes = h i; pending = k i; keyed = false; valued = false }
 
 or_assoc : (a b d : Bool) → (a || (b || d)) ≡ ((a || b) || d)
 or_assoc true b d = refl
 or_assoc false b d = refl
 
-pub surveying_turn : (w : List ℕ) (at : ℕ) (t r : Tally) (fell falling inside within : Bool) (u : Update) → at + 3 < length w → u ≡ update_at w at
-    → Surveying w at t fell inside → r ≡ tallied t (entry_of u) → falling ≡ (fell || before (entry_of u) (entry_of t.pending)) → within ≡ (inside && in_range (entry_of u))
-    → Surveying w (at + 4) r falling within
+pub surveying_turn : (es : List Entry) (i : ℕ) (t r : Tally) (fell falling inside within : Bool) (u : Update) → i < length es → entry_of u ≡ nth es i
+    → Surveying es i t fell inside → r ≡ tallied t (entry_of u) → falling ≡ (fell || before (entry_of u) (entry_of t.pending)) → within ≡ (inside && in_range (entry_of u))
+    → Surveying es (i + 1) r falling within
 unfolding tally_from
-surveying_turn w at t r fell falling inside within u more q h k l m =
+surveying_turn es i t r fell falling inside within u more q h k l m =
     let p : Entry = entry_of t.pending in
     let e : Entry = entry_of u in
-    let es : List Entry = updates (drop (at + 4) w) in
-    let opened : updates (drop at w) ≡ e ∷ es = turn w at more ∙ ap (λ (x : Update). entry_of x ∷ es) (sym q) in
-    subst (λ (x : Tally). Surveying w (at + 4) x falling within) (sym k)
+    let rest : List Entry = drop (i + 1) es in
+    let opened : drop i es ≡ e ∷ rest = turn es i more ∙ ap (λ (x : Entry). x ∷ rest) (sym q) in
+    subst (λ (x : Tally). Surveying es (i + 1) x falling within) (sym k)
     (record {
-      within = omega arith;
-      sized = sized_wider (omega arith) (sized_after at t (ends_at p e) h.sized);
-      sizes = λ z. h.sizes z ∙ ap (λ (es : List Entry). tally_from t es) opened;
+      sized = sized_after i t (ends_at p e) h.sized;
+      sizes = λ z. h.sizes z ∙ ap (λ (l : List Entry). tally_from t l) opened;
       falling =
           h.falling
-          ∙ ap (λ (es : List Entry). fell || falls (p ∷ es)) opened
-          ∙ ap (λ (b : Bool). fell || b) (falls-turn p e es)
-          ∙ or_assoc fell (before e p) (falls (next_pending p e ∷ es))
-          ∙ ap (λ (b : Bool). b || falls (next_pending p e ∷ es)) (sym l);
+          ∙ ap (λ (l : List Entry). fell || falls (p ∷ l)) opened
+          ∙ ap (λ (b : Bool). fell || b) (falls-turn p e rest)
+          ∙ or_assoc fell (before e p) (falls (next_pending p e ∷ rest))
+          ∙ ap (λ (b : Bool). b || falls (next_pending p e ∷ rest)) (sym l);
       ranging =
           h.ranging
-          ∙ range_more w at inside u more q
-          ∙ ap (λ (b : Bool). b && every in_range es) (sym m);
+          ∙ range_more es i inside u more q
+          ∙ ap (λ (b : Bool). b && every in_range rest) (sym m);
     })
 
 -- ---- at the last update
 
-module _ (w : List ℕ) (at : ℕ) (t : Tally) (fell inside : Bool) (over : length w ≤ at + 3) (h : Surveying w at t fell inside) where
-  pub ends_falls : falls (updates w) ≡ fell
+module _ (es : List Entry) (i : ℕ) (t : Tally) (fell inside : Bool) (over : length es ≤ i) (h : Surveying es i t fell inside) where
+  pub ends_falls : falls es ≡ fell
   unfolding falls
-  ends_falls = h.falling ∙ ap (λ (es : List Entry). fell || falls (entry_of t.pending ∷ es)) (done w at over) ∙ or-false fell
+  ends_falls = h.falling ∙ ap (λ (l : List Entry). fell || falls (entry_of t.pending ∷ l)) (done es i over) ∙ or-false fell
 
-  pub ends_range : every in_range (updates w) ≡ inside
-  ends_range = h.ranging ∙ range_done w at inside over
+  pub ends_range : every in_range es ≡ inside
+  ends_range = h.ranging ∙ range_done es i inside over
 
-  pub ends_sizes : falls (updates w) ≡ false → sizes_of (final_counts (updates w)) ≡ sizes_after t (stands (entry_of t.pending))
+  pub ends_sizes : falls es ≡ false → sizes_of (final_counts es) ≡ sizes_after t (stands (entry_of t.pending))
   unfolding tally_from
-  ends_sizes k = h.sizes k ∙ ap (λ (es : List Entry). tally_from t es) (done w at over)
+  ends_sizes k = h.sizes k ∙ ap (λ (l : List Entry). tally_from t l) (done es i over)

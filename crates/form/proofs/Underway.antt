@@ -1,15 +1,15 @@
--- The second pass on its way through the words: its counts and the pending update give, with the updates that are left, the counts of all
+-- The second pass on its way through the updates: its counts and the pending update give, with the updates that are left, the counts of all
 -- that is formed, and all that is written.
-use Rattle.std.proofs.Common.{◌≡◌, ℕ, ◌+◌, ◌^◌, ◌<◌, ◌≤◌, Bool, true, false, cond, List, [], ◌∷◌, length, get_or, drop, sym, refl, ap, ◌∙◌, subst, arith}
+use Rattle.std.proofs.Common.{◌≡◌, ℕ, ◌+◌, ◌^◌, ◌<◌, ◌≤◌, Bool, true, false, cond, List, [], ◌∷◌, length, drop, sym, ap, ◌∙◌, subst, arith}
 use Rattle.chunk.specs.declared.Contents.{Contents}
 use Rattle.chunk.specs.Contents.{layout_of}
 use Rattle.chunk.specs.Entry.{Entry}
-use Rattle.sort.specs.Sort.{updates}
-use Rattle.form.specs.declared.Update.{Update}
+use Rattle.sort.specs.Sort.{entry_of, nth}
+use Rattle.sort.specs.declared.Update.{Update}
 use Rattle.form.specs.declared.Counts.{Counts}
 use Rattle.form.specs.declared.Consolidating.{Consolidating}
 use Rattle.form.specs.Form.{consolidated, formed}
-use Rattle.form.specs.Pass.{entry_of, update_at, no_update, no_counts, counted, opens_key, opens_val, count_from, write_from, pushed, pushed_out, next_counts, next_pending, next_out, final_counts, Counting, Roomy, Taken, Stored, Placed}
+use Rattle.form.specs.Pass.{no_update, no_counts, counted, opens_key, opens_val, count_from, write_from, pushed, pushed_out, next_counts, next_pending, next_out, final_counts, Counting, Roomy, Taken, Stored, Placed}
 use Rattle.form.proofs.Step.{counting_next}
 use Rattle.form.proofs.Left.{turn, done, starts, count_turn, count_done, write_turn, write_done}
 
@@ -20,65 +20,59 @@ wider l h = record { keys = omega (arith, h); vals = omega (arith, h); times = o
 abbrev pub fresh : Consolidating
 fresh = record { counts = no_counts; pending = no_update }
 
--- what both passes keep
-pub record Underway (w : List ℕ) (at : ℕ) (s : Consolidating) : Type 0 where
-  pub counting : Counting at s.counts
-  pub within : at ≤ length w
-  pub counts : final_counts (updates w) ≡ count_from s.counts (consolidated (entry_of s.pending) (updates (drop at w)))
+-- what the pass keeps
+pub record Underway (es : List Entry) (i : ℕ) (s : Consolidating) : Type 0 where
+  pub counting : Counting i s.counts
+  pub counts : final_counts es ≡ count_from s.counts (consolidated (entry_of s.pending) (drop i es))
 
--- the second keeps what is written
-pub record Writing (w : List ℕ) (p : Contents) (before after : List ℕ) (at : ℕ) (s : Consolidating) : Type 0 where
-  pub underway : Underway w at s
-  pub same_length : length after ≡ length before
-  pub writes : write_from p no_counts (formed (updates w)) before ≡ write_from p s.counts (consolidated (entry_of s.pending) (updates (drop at w))) after
+-- and what is written
+pub record Writing (es : List Entry) (p : Contents) (before after : List ℕ) (i : ℕ) (s : Consolidating) : Type 0 where
+  pub underway : Underway es i s
+  pub writes : write_from p no_counts (formed es) before ≡ write_from p s.counts (consolidated (entry_of s.pending) (drop i es)) after
 
-module _ (w : List ℕ) (h : get_or w 3 0 < 2 ^ 64) where
-  pub underway-starts : Underway w 0 fresh
+module _ (es : List Entry) (h : (nth es 0).diff < 2 ^ 64) where
+  pub underway-starts : Underway es 0 fresh
   underway-starts =
       record {
         counting = record { keys = omega arith; vals = omega arith; times = omega arith; keyed = omega arith; valued = omega arith };
-        within = omega arith;
-        counts = ap (λ (es : List Entry). count_from no_counts es) (starts w h);
+        counts = ap (λ (l : List Entry). count_from no_counts l) (starts es h);
       }
 
-  pub writing_starts : (p : Contents) (out : List ℕ) → Writing w p out out 0 fresh
+  pub writing_starts : (p : Contents) (out : List ℕ) → Writing es p out out 0 fresh
   writing_starts p out =
-      record { underway = underway-starts; same_length = refl; writes = ap (λ (es : List Entry). write_from p no_counts es out) (starts w h) }
+      record { underway = underway-starts; writes = ap (λ (l : List Entry). write_from p no_counts l out) (starts es h) }
 
 -- ---- one update more
 
-module _ (w : List ℕ) (at : ℕ) (s r : Consolidating) (u : Update) (more : at + 3 < length w) (q : u ≡ update_at w at) (t : Taken s u r) where
-  opened : updates (drop at w) ≡ entry_of u ∷ updates (drop (at + 4) w)
-  opened = turn w at more ∙ ap (λ (x : Update). entry_of x ∷ updates (drop (at + 4) w)) (sym q)
+module _ (es : List Entry) (i : ℕ) (s r : Consolidating) (u : Update) (more : i < length es) (q : entry_of u ≡ nth es i) (t : Taken s u r) where
+  opened : drop i es ≡ entry_of u ∷ drop (i + 1) es
+  opened = turn es i more ∙ ap (λ (e : Entry). e ∷ drop (i + 1) es) (sym q)
 
-  pub underway-turn : Underway w at s → Underway w (at + 4) r
+  pub underway-turn : Underway es i s → Underway es (i + 1) r
   underway-turn h =
       record {
         counting =
-            subst (λ (c : Counts). Counting (at + 4) c) (sym t.counts)
-            (wider (omega arith) (counting_next at s.counts (entry_of s.pending) h.counting (entry_of u)));
-        within = omega arith;
+            subst (λ (c : Counts). Counting (i + 1) c) (sym t.counts)
+            (counting_next i s.counts (entry_of s.pending) h.counting (entry_of u));
         counts =
             h.counts
-            ∙ ap (λ (es : List Entry). count_from s.counts (consolidated (entry_of s.pending) es)) opened
-            ∙ count_turn s.counts (entry_of s.pending) (entry_of u) (updates (drop (at + 4) w))
-            ∙ ap (λ (c : Counts). count_from c (consolidated (next_pending (entry_of s.pending) (entry_of u)) (updates (drop (at + 4) w)))) (sym t.counts)
-            ∙ ap (λ (e : Entry). count_from r.counts (consolidated e (updates (drop (at + 4) w)))) (sym t.pending);
+            ∙ ap (λ (l : List Entry). count_from s.counts (consolidated (entry_of s.pending) l)) opened
+            ∙ count_turn s.counts (entry_of s.pending) (entry_of u) (drop (i + 1) es)
+            ∙ ap (λ (c : Counts). count_from c (consolidated (next_pending (entry_of s.pending) (entry_of u)) (drop (i + 1) es))) (sym t.counts)
+            ∙ ap (λ (e : Entry). count_from r.counts (consolidated e (drop (i + 1) es))) (sym t.pending);
       }
 
-  pub writing_turn : (p : Contents) (first out after : List ℕ) → Writing w p first out at s → Stored p s u out r after → length after ≡ length out
-      → Writing w p first after (at + 4) r
-  writing_turn p first out after h k l =
+  pub writing_turn : (p : Contents) (first out after : List ℕ) → Writing es p first out i s → Stored p s u out r after → Writing es p first after (i + 1) r
+  writing_turn p first out after h k =
       record {
         underway = underway-turn h.underway;
-        same_length = l ∙ h.same_length;
         writes =
             h.writes
-            ∙ ap (λ (es : List Entry). write_from p s.counts (consolidated (entry_of s.pending) es) out) opened
-            ∙ write_turn s.counts (entry_of s.pending) p out (entry_of u) (updates (drop (at + 4) w))
-            ∙ ap (λ (c : Counts). write_from p c (consolidated (next_pending (entry_of s.pending) (entry_of u)) (updates (drop (at + 4) w))) (next_out p s.counts (entry_of s.pending) (entry_of u) out)) (sym t.counts)
-            ∙ ap (λ (e : Entry). write_from p r.counts (consolidated e (updates (drop (at + 4) w))) (next_out p s.counts (entry_of s.pending) (entry_of u) out)) (sym t.pending)
-            ∙ ap (λ (o : List ℕ). write_from p r.counts (consolidated (entry_of r.pending) (updates (drop (at + 4) w))) o) (sym k.stores);
+            ∙ ap (λ (l : List Entry). write_from p s.counts (consolidated (entry_of s.pending) l) out) opened
+            ∙ write_turn s.counts (entry_of s.pending) p out (entry_of u) (drop (i + 1) es)
+            ∙ ap (λ (c : Counts). write_from p c (consolidated (next_pending (entry_of s.pending) (entry_of u)) (drop (i + 1) es)) (next_out p s.counts (entry_of s.pending) (entry_of u) out)) (sym t.counts)
+            ∙ ap (λ (e : Entry). write_from p r.counts (consolidated e (drop (i + 1) es)) (next_out p s.counts (entry_of s.pending) (entry_of u) out)) (sym t.pending)
+            ∙ ap (λ (o : List ℕ). write_from p r.counts (consolidated (entry_of r.pending) (drop (i + 1) es)) o) (sym k.stores);
       }
 
 -- ---- counts only grow
@@ -120,36 +114,32 @@ roomy es p first out c h l b =
 
 -- ---- at the last update
 
-module _ (w : List ℕ) (at : ℕ) (s : Consolidating) (over : length w ≤ at + 3) where
-  pub underway_ends : Underway w at s → final_counts (updates w) ≡ pushed s.counts (entry_of s.pending)
+module _ (es : List Entry) (i : ℕ) (s : Consolidating) (over : length es ≤ i) where
+  pub underway_ends : Underway es i s → final_counts es ≡ pushed s.counts (entry_of s.pending)
   underway_ends h =
       h.counts
-      ∙ ap (λ (es : List Entry). count_from s.counts (consolidated (entry_of s.pending) es)) (done w at over)
+      ∙ ap (λ (l : List Entry). count_from s.counts (consolidated (entry_of s.pending) l)) (done es i over)
       ∙ count_done s.counts (entry_of s.pending)
 
-  pub writing_ends : (p : Contents) (first out : List ℕ) → Writing w p first out at s
-      → write_from p no_counts (formed (updates w)) first ≡ pushed_out p s.counts (entry_of s.pending) out
+  pub writing_ends : (p : Contents) (first out : List ℕ) → Writing es p first out i s
+      → write_from p no_counts (formed es) first ≡ pushed_out p s.counts (entry_of s.pending) out
   writing_ends p first out h =
       h.writes
-      ∙ ap (λ (es : List Entry). write_from p s.counts (consolidated (entry_of s.pending) es) out) (done w at over)
+      ∙ ap (λ (l : List Entry). write_from p s.counts (consolidated (entry_of s.pending) l) out) (done es i over)
       ∙ write_done s.counts (entry_of s.pending) p out
-
--- a state made of its parts
-pub fresh_is : (k : Counts) (u : Update) → k ≡ no_counts → u ≡ no_update → record { counts = k; pending = u } ≡ fresh
-fresh_is k u h l = λ i. record { counts = h i; pending = l i }
 
 -- ---- within the counts of all that is formed
 
-pub below_turn : (w : List ℕ) (at : ℕ) (s : Consolidating) (u : Update) → at + 3 < length w → u ≡ update_at w at → Underway w at s
-    → Below (next_counts s.counts (entry_of s.pending) (entry_of u)) (final_counts (updates w))
-below_turn w at s u more q h =
+pub below_turn : (es : List Entry) (i : ℕ) (s : Consolidating) (u : Update) → i < length es → entry_of u ≡ nth es i → Underway es i s
+    → Below (next_counts s.counts (entry_of s.pending) (entry_of u)) (final_counts es)
+below_turn es i s u more q h =
     subst (λ (f : Counts). Below (next_counts s.counts (entry_of s.pending) (entry_of u)) f)
     (sym (h.counts
-    ∙ ap (λ (es : List Entry). count_from s.counts (consolidated (entry_of s.pending) es)) (turn w at more ∙ ap (λ (x : Update). entry_of x ∷ updates (drop (at + 4) w)) (sym q))
-    ∙ count_turn s.counts (entry_of s.pending) (entry_of u) (updates (drop (at + 4) w))))
+    ∙ ap (λ (l : List Entry). count_from s.counts (consolidated (entry_of s.pending) l)) (turn es i more ∙ ap (λ (e : Entry). e ∷ drop (i + 1) es) (sym q))
+    ∙ count_turn s.counts (entry_of s.pending) (entry_of u) (drop (i + 1) es)))
     (grows _ _)
 
-pub below_end : (w : List ℕ) (at : ℕ) (s : Consolidating) → length w ≤ at + 3 → Underway w at s → Below (pushed s.counts (entry_of s.pending)) (final_counts (updates w))
-below_end w at s over h =
-    subst (λ (f : Counts). Below (pushed s.counts (entry_of s.pending)) f) (sym (underway_ends w at s over h))
+pub below_end : (es : List Entry) (i : ℕ) (s : Consolidating) → length es ≤ i → Underway es i s → Below (pushed s.counts (entry_of s.pending)) (final_counts es)
+below_end es i s over h =
+    subst (λ (f : Counts). Below (pushed s.counts (entry_of s.pending)) f) (sym (underway_ends es i s over h))
     (record { keys = omega arith; vals = omega arith; times = omega arith })

@@ -1,27 +1,21 @@
 -- What the calls answer, from the tests on the way: the refusals in their order, and the chunk.
 use Rattle.std.proofs.Common.{◌≡◌, ℕ, zero, suc, ◌/◌, ◌%◌, ◌<◌, ◌≤◌, Bool, true, false, not, eqb, ltb, List, [], ◌∷◌, ◌++◌, length, sym, refl, ap, ◌∙◌, arith, ltb-false, le-ltb, lt-ltb, eq-eqb, eqb-true, le-leb}
 use lib.ListN.{length-map}
-use Rattle.chunk.specs.Contents.{layout_of, layout_within, table_of, with_table}
+use Rattle.chunk.specs.declared.Refusal.{Refusal}
+use Rattle.chunk.specs.declared.Refusal.TheVariants.{OutputShort}
+use Rattle.chunk.specs.Answer.{number_of}
+use Rattle.chunk.specs.Contents.{layout_of, table_of, with_table}
 use Rattle.chunk.specs.Words.{over, limit}
 use Rattle.chunk.specs.Entry.{Entry, same_list, every}
 use Rattle.chunk.specs.Bodies.{lasts_of, same_key, chunk_of}
 use Rattle.chunk.specs.Refusal.{Test, first, refuse, written}
+use Rattle.chunk.proofs.Refusals.{number_above, refused_by}
 use Rattle.sort.specs.Sort.{updates}
 use Rattle.laws.proofs.Tests.{by_test, and_left, and_right, true-not-false}
 use Rattle.form.specs.Form.{formed, falls, in_range, room, form_number, form_out, FormAnswers}
 use Rattle.form.specs.Pass.{final_counts, count_number, survey_number, Accepts}
 use Rattle.form.proofs.Formed.{formed-length}
 use Rattle.form.proofs.Chunk.{count-keys, count-vals, count-times}
-
--- ---- four words for each update
-
-pub updates-length : (w : List ℕ) → length (updates w) ≡ length w / 4
-unfolding updates
-updates-length [] = refl
-updates-length (a ∷ []) = refl
-updates-length (a ∷ b ∷ []) = refl
-updates-length (a ∷ b ∷ d ∷ []) = refl
-updates-length (a ∷ b ∷ d ∷ e ∷ w) = omega (arith, updates-length w)
 
 -- ---- the counts of what is formed are within the updates
 
@@ -46,15 +40,6 @@ module _ (es : List Entry) where
   final_vals =
       omega (arith, count-vals (formed es), length-map (lasts_of same_list (formed es)) (λ (e : Entry). e.val), lasts_length same_list (formed es), formed-length es)
 
-  pub laid_out : (out : List ℕ) → Accepts es out
-      → layout_within (final_counts es).nk (final_counts es).nv (final_counts es).nt (final_counts es).nt ≡ layout_of (final_counts es).nk (final_counts es).nv (final_counts es).nt (final_counts es).nt
-  unfolding layout_within
-  laid_out out h =
-      let k : (final_counts es).nk ≤ limit = omega (arith, h.few, final_keys) in
-      let v : (final_counts es).nv ≤ limit = omega (arith, h.few, final_vals) in
-      let t : (final_counts es).nt ≤ limit = omega (arith, h.few, final_times) in
-      simp (le-leb _ _ k, le-leb _ _ v, le-leb _ _ t)
-
   pub size_fits : (out : List ℕ) → Accepts es out → (layout_of (final_counts es).nk (final_counts es).nv (final_counts es).nt (final_counts es).nt).size ≤ length out
   size_fits out h = omega (arith, h.room, final_keys, final_vals, final_times)
 
@@ -63,15 +48,6 @@ unfolding with_table
 tabled k v t d out h = simp (le-leb 4 (length out) h)
 
 -- ---- tests in order
-
--- a test that fails decides before all that come after it
-pub first_front : (ts us : List Test) → (first ts ≡ 0 → ⊥) → first (ts ++ us) ≡ first ts
-unfolding first
-first_front [] us h = absurd (h refl)
-first_front (t ∷ ts) us h =
-    by_test t.fails
-    (λ (f : t.fails ≡ true). rw f)
-    (λ (f : t.fails ≡ false). rw f (first_front ts us (λ (z : first ts ≡ 0). h (rw f z))))
 
 -- tests none of which has the number 0
 abbrev numbered : List Test → Bool
@@ -108,9 +84,9 @@ unfolding first
 room_enough us out h = simp (le-ltb (length out) (room us) h)
 
 module _ (n : ℕ) (h : count_number n ≡ 0) where
-  pub count_whole : n % 4 ≡ 0
+  pub four_each : n % 4 ≡ 0
   unfolding count_number first
-  count_whole =
+  four_each =
       by_test (eqb (n % 4) 0)
       (λ (f : eqb (n % 4) 0 ≡ true). eqb-true _ _ f)
       (λ (f : eqb (n % 4) 0 ≡ false). let q : ◌≡◌ {A = ℕ} 1 0 = rw f at h in absurd (omega arith))
@@ -119,22 +95,25 @@ module _ (n : ℕ) (h : count_number n ≡ 0) where
   unfolding count_number first
   count_few =
       by_test (ltb limit (n / 4))
-      (λ (f : ltb limit (n / 4) ≡ true). let q : ◌≡◌ {A = ℕ} 2 0 = rw (eq-eqb _ _ count_whole, f) at h in absurd (omega arith))
+      (λ (f : ltb limit (n / 4) ≡ true). let q : ◌≡◌ {A = ℕ} 2 0 = rw (eq-eqb _ _ four_each, f) at h in absurd (omega arith))
       (λ (f : ltb limit (n / 4) ≡ false). ltb-false _ _ f)
 
 -- ---- the sorted call
 
 module _ (us out : List ℕ) where
   -- a refusal leaves the output
-  refused : (r : ℕ) → r ≡ form_number us out → (r ≡ 0 → ⊥) → FormAnswers us out r out
-  unfolding form_out written
-  refused zero h k = absurd (k refl)
-  refused (suc n) h k = record { number = h; written = ap (λ (m : ℕ). written m (formed (updates us)) out) h }
+  left : (n : ℕ) → 0 < n → out ≡ written n (formed (updates us)) out
+  unfolding written
+  left zero h = absurd (omega arith)
+  left (suc n) h = refl
 
-  pub form_count : (r : ℕ) → r ≡ count_number (length us) → (r ≡ 0 → ⊥) → FormAnswers us out r out
+  refused : (e : Refusal) → number_of e ≡ form_number us out → FormAnswers us out (number_of e) out
+  unfolding form_out
+  refused e h = record { number = h; written = rw (sym h) (left (number_of e) (number_above e)) }
+
+  pub form_count : (e : Refusal) → number_of e ≡ count_number (length us) → FormAnswers us out (number_of e) out
   unfolding form_number count_number
-  form_count r h k =
-      refused r (h ∙ sym (first_front (count_tests (length us)) (survey_tests (updates us) ++ room_tests us out) (λ (z : first (count_tests (length us)) ≡ 0). k (h ∙ z)))) k
+  form_count e h = refused e (refused_by e (count_tests (length us)) (survey_tests (updates us) ++ room_tests us out) h)
 
   module _ (counts : count_number (length us) ≡ 0) where
     -- what the count of words passes, the updates and the room decide
@@ -142,10 +121,9 @@ module _ (us out : List ℕ) where
     unfolding form_number count_number every
     then = first_on (count_tests (length us)) (survey_tests (updates us) ++ room_tests us out) refl counts
 
-    pub form_survey : (r : ℕ) → r ≡ survey_number (updates us) → (r ≡ 0 → ⊥) → FormAnswers us out r out
+    pub form_survey : (e : Refusal) → number_of e ≡ survey_number (updates us) → FormAnswers us out (number_of e) out
     unfolding survey_number
-    form_survey r h k =
-        refused r (h ∙ sym (then ∙ first_front (survey_tests (updates us)) (room_tests us out) (λ (z : first (survey_tests (updates us)) ≡ 0). k (h ∙ z)))) k
+    form_survey e h = refused e (refused_by e (survey_tests (updates us)) (room_tests us out) h ∙ sym then)
 
     module _ (passed : survey_number (updates us) ≡ 0) where
       then_room : form_number us out ≡ first (room_tests us out)
@@ -153,7 +131,7 @@ module _ (us out : List ℕ) where
       then_room = then ∙ first_on (survey_tests (updates us)) (room_tests us out) refl passed
 
       pub form_13 : length out < room us → FormAnswers us out 13 out
-      form_13 h = refused 13 (room_short us out h ∙ sym then_room) (λ (z : ◌≡◌ {A = ℕ} 13 0). omega arith)
+      form_13 h = refused OutputShort (room_short us out h ∙ sym then_room)
 
       pub form_0 : (after : List ℕ) → room us ≤ length out → after ≡ over (chunk_of (formed (updates us))) out → FormAnswers us out 0 after
       unfolding form_out written

@@ -1,30 +1,24 @@
 -- The two passes of `form` over updates that do not fall (document 01, "Form"): "Diffs with equal (key, value, time) are added, zero sums
 -- dropped, and the settled chunk written". The first pass counts what the second writes, entry by entry.
-use Rattle.std.specs.Prelude.{◌≡◌, ℕ, ◌+◌, ◌-◌, ◌*◌, ◌/◌, ◌%◌, ◌≤◌, min, Bool, cond, not, ◌||◌, List, [], ◌∷◌, length, set, ◌==◌, nat_lt, slice_index, slice_set}
+use Rattle.std.specs.Prelude.{◌≡◌, ℕ, ◌+◌, ◌-◌, ◌*◌, ◌/◌, ◌%◌, ◌≤◌, min, Bool, cond, not, ◌||◌, List, [], ◌∷◌, length, set, ◌==◌, nat_lt, slice_set, Result, Ok, Err}
 use Rattle.chunk.specs.declared.Contents.{Contents}
+use Rattle.chunk.specs.declared.Refusal.{Refusal}
+use Rattle.chunk.specs.Answer.{number_of}
 use Rattle.chunk.specs.Contents.{layout_of}
 use Rattle.chunk.specs.Entry.{Entry, same, stands, every}
 use Rattle.chunk.specs.Refusal.{first, refuse}
 use Rattle.chunk.specs.Sums.{plus, with_diff}
 use Rattle.chunk.specs.Words.{limit}
-use Rattle.form.specs.declared.Update.{Update}
+use Rattle.sort.specs.Sort.{entry_of}
+use Rattle.sort.specs.declared.Update.{Update}
 use Rattle.form.specs.declared.Counts.{Counts}
 use Rattle.form.specs.declared.Consolidating.{Consolidating}
 use Rattle.form.specs.declared.Sizes.{Sizes}
-use Rattle.form.specs.declared.Found.{Found}
 use Rattle.form.specs.Form.{formed, falls, in_range}
 
--- an update in the code, as an entry
-abbrev pub entry_of : Update → Entry
-entry_of u = record { key = u.key; val = u.val; time = u.time; diff = u.diff }
-
--- and back
+-- an entry, as an update in the code
 abbrev pub update_of : Entry → Update
 update_of e = record { key = e.key; val = e.val; time = e.time; diff = e.diff }
-
--- the update whose four words start at this index
-abbrev pub update_at : List ℕ → ℕ → Update
-update_at w i = record { key = slice_index w i; val = slice_index w (i + 1); time = slice_index w (i + 2); diff = slice_index w (i + 3) }
 
 -- before the first update: no change at the least position
 abbrev pub no_update : Update
@@ -144,6 +138,11 @@ unfoldable pub count_number : ℕ → ℕ
 unfolding first
 count_number n = first (refuse 1 (not (n % 4 == 0)) ∷ refuse 2 (nat_lt limit (n / 4)) ∷ [])
 
+-- how many updates that many words are, or the refusal
+abbrev pub Counted : ℕ → Result ℕ Refusal → Type 0
+Counted n (Ok k) = (count_number n ≡ 0) × (k ≡ n / 4)
+Counted n (Err e) = number_of e ≡ count_number n
+
 -- the number of a survey: 3 where a position falls, else 4 where a diff is out of range
 unfoldable pub survey_number : List Entry → ℕ
 unfolding first falls every
@@ -157,10 +156,10 @@ final_counts es = count_from no_counts (formed es)
 abbrev pub sizes_of : Counts → Sizes
 sizes_of c = record { nk = c.nk; nv = c.nv; nt = c.nt }
 
--- what the first pass finds: the number, and, where that is 0, the sizes of what is formed
-pub record Surveyed (es : List Entry) (r : Found) : Type 0 where
-  pub number : r.number ≡ survey_number es
-  pub sizes : survey_number es ≡ 0 → r.sizes ≡ sizes_of (final_counts es)
+-- what the first pass finds: the sizes of what is formed, or the refusal
+abbrev pub Surveyed : List Entry → Result Sizes Refusal → Type 0
+Surveyed es (Ok s) = (survey_number es ≡ 0) × (s ≡ sizes_of (final_counts es))
+Surveyed es (Err e) = number_of e ≡ survey_number es
 
 -- the places are those of what is formed, in an output that holds it
 pub record Placed (es : List Entry) (p : Contents) (out : List ℕ) : Type 0 where

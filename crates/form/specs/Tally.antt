@@ -2,9 +2,10 @@
 -- say whether an entry with its key, and one with its key and value, was counted before it.
 use Rattle.std.specs.Prelude.{ℕ, ◌+◌, ◌≤◌, Bool, false, cond, not, ◌&&◌, ◌||◌, List, [], ◌∷◌, ◌==◌}
 use Rattle.chunk.specs.Entry.{Entry, same_list, same, stands}
+use Rattle.sort.specs.Sort.{entry_of}
 use Rattle.form.specs.declared.Sizes.{Sizes}
 use Rattle.form.specs.declared.Tally.{Tally}
-use Rattle.form.specs.Pass.{entry_of, update_of, no_update, next_pending}
+use Rattle.form.specs.Pass.{update_of, no_update, next_pending}
 
 -- 1 where a test holds, else 0
 abbrev pub bit : Bool → ℕ

@@ -6,30 +6,21 @@
 // on the updates.
 #![tactic(auto)]
 
-ghost use Rattle.std.specs.Prelude.{◌≡◌, ◌+◌, ◌^◌, ◌<◌, true, ◌&&◌, length, if◌then◌else◌};
+ghost use Rattle.std.specs.Prelude.{◌≡◌, ◌^◌, length};
 ghost use Rattle.chunk.specs.Entry.{before, same, every};
+ghost use Rattle.chunk.specs.Answer.{answer_number};
 ghost use Rattle.chunk.specs.Bodies.{chunk_of};
 ghost use Rattle.chunk.specs.Words.{over};
-ghost use Rattle.sort.specs.Sort.{updates};
+ghost use Rattle.sort.specs.Sort.{entry_of, updates};
 ghost use Rattle.form.specs.Form.{formed, in_range, FormAnswers, UnsortedAnswers};
-ghost use Rattle.form.specs.Pass.{entry_of, update_at, no_update, joined, counted, stored, next_counts, next_pending, pushed, write_from, no_counts, Counting, Roomy, Some, Pushed, Taken, Stored, Surveyed, Placed, Accepts, final_counts, sizes_of, count_number};
-ghost use Rattle.form.specs.Tally.{bit, no_sizes, sizes_after, tallied, Sized};
+ghost use Rattle.form.specs.Pass.{joined, counted, stored, next_counts, next_pending, pushed, write_from, no_counts, Counting, Roomy, Some, Pushed, Stored, Surveyed, Placed, Accepts, final_counts, sizes_of, Counted};
+ghost use Rattle.form.specs.Tally.{sizes_after, tallied, Sized};
 
-use chunk::{Contents, layout, write_table};
-use sort::sort_updates;
-use std::num::wrapping_add_u64;
-
-// One update: a position and its change.
-#[derive(Clone, Copy)]
-struct Update {
-    key: u64,
-    val: u64,
-    time: u64,
-    diff: u64,
-}
+use chunk::{Contents, Refusal, places, write_table};
+use sort::{Update, sort_updates};
 
 // How many keys, values and times there are.
-#[derive(Clone, Copy)]
+#[derive(Clone, Copy, Default)]
 struct Sizes {
     nk: usize,
     nv: usize,
@@ -38,7 +29,7 @@ struct Sizes {
 
 // The first pass on its way: how much is done, the update that is pending, and whether an entry with its key, and one with its key
 // and value, is among what is done.
-#[derive(Clone, Copy)]
+#[derive(Clone, Copy, Default)]
 struct Tally {
     sizes: Sizes,
     pending: Update,
@@ -46,15 +37,9 @@ struct Tally {
     valued: bool,
 }
 
-// What the first pass finds: a refusal's number, or 0 and the sizes.
-#[derive(Clone, Copy)]
-struct Found {
-    number: u64,
-    sizes: Sizes,
-}
-
 // The keys, values and times so far, and the entry that was counted last.
-#[derive(Clone, Copy)]
+// Kept: each update may add one to them, so a bound that holds before a step doesn't after it: a clause, and no ghost field. And beside `Sizes`, which the first pass counts by tests.
+#[derive(Clone, Copy, Default)]
 struct Counts {
     nk: usize,
     nv: usize,
@@ -63,7 +48,7 @@ struct Counts {
 }
 
 // The second pass on its way: what is done, and the update that is pending.
-#[derive(Clone, Copy)]
+#[derive(Clone, Copy, Default)]
 struct Consolidating {
     counts: Counts,
     pending: Update,
@@ -77,63 +62,20 @@ const ROOM: usize = 4;
 
 const ROOM_EACH: usize = 7;
 
-// The greatest diff that is taken, 2^40, and the word of the least, −2^40.
-const MOST: u64 = 1099511627776;
+// The least and the greatest diff that is taken.
+const LEAST: i64 = -(1 << 40);
 
-const LEAST: u64 = 18446742974197923840;
-
-// Before the first update: no change at the least position.
-fn no_update() -> Update
-    ensures { result ≡ no_update }
-{
-    Update {
-        key: 0,
-        val: 0,
-        time: 0,
-        diff: 0,
-    }
-}
-
-// Before the first entry.
-fn no_counts() -> Counts
-    ensures { result ≡ no_counts }
-{
-    let last = no_update();
-    Counts {
-        nk: 0,
-        nv: 0,
-        nt: 0,
-        last,
-    }
-}
-
-// The update whose four words start at `at`.
-fn update_at(words: &[u64], at: usize) -> Update
-    requires { at + 3 < length words.now }
-    ensures { result ≡ update_at words.now at }
-{
-    Update {
-        key: words[at],
-        val: words[at + 1],
-        time: words[at + 2],
-        diff: words[at + 3],
-    }
-}
+const MOST: i64 = 1 << 40;
 
 // Whether `a` and `b` have one position.
 fn same_position(a: Update, b: Update) -> bool
     ensures { result ≡ same (entry_of a) (entry_of b) }
 {
-    if a.key != b.key {
-        return false;
-    }
-    if a.val != b.val {
-        return false;
-    }
-    a.time == b.time
+    (a.key, a.val, a.time) == (b.key, b.val, b.time)
 }
 
 // Whether the position of `a` is before that of `b`: by key, then value, then time, with no branch.
+// Kept: the order of tuples branches on the words; with it the first pass took a fifth longer, over updates that open lists at random.
 fn precedes(a: Update, b: Update) -> bool
     ensures { result ≡ before (entry_of a) (entry_of b) }
 {
@@ -141,11 +83,12 @@ fn precedes(a: Update, b: Update) -> bool
         | ((a.key == b.key) & ((a.val < b.val) | ((a.val == b.val) & (a.time < b.time))))
 }
 
-// Whether all was in range so far, and this update's diff is too, with no branch.
-fn still_in_range(sofar: bool, u: Update) -> bool
-    ensures { result ≡ (sofar && in_range (entry_of u)) }
+// Whether this update's diff is in range, with no branch.
+fn in_range(u: Update) -> bool
+    ensures { result ≡ in_range (entry_of u) }
 {
-    sofar & ((u.diff <= MOST) | (LEAST <= u.diff))
+    let diff = u.diff.cast_signed();
+    (LEAST <= diff) & (diff <= MOST)
 }
 
 // The update `a` with the diff of `b` added. Where diffs are in range no sum of them overflows.
@@ -153,167 +96,110 @@ fn join(a: Update, b: Update) -> Update
     ensures { entry_of result ≡ joined (entry_of a) (entry_of b) }
 {
     Update {
-        key: a.key,
-        val: a.val,
-        time: a.time,
-        diff: wrapping_add_u64(a.diff, b.diff),
+        diff: a.diff.wrapping_add(b.diff),
+        ..a
     }
 }
 
-// The counts with the entry `e` added.
-fn count(c: Counts, e: Update) -> Counts
-    requires { Counting (2 ^ 62) c }
-    ensures { result ≡ counted c (entry_of e) }
-{
-    let last = c.last;
-    let nk = c.nk;
-    let nv = c.nv;
-    let nt = c.nt + 1;
-    if c.nt == 0 {
-        return Counts {
-            nk: nk + 1,
-            nv: nv + 1,
-            nt,
+impl Counts {
+    // The counts with the entry `e` added.
+    fn with(self, e: Update) -> Counts
+        requires { Counting (2 ^ 62) self }
+        ensures { result ≡ counted self (entry_of e) }
+    {
+        let opens_key = self.nt == 0 || self.last.key != e.key;
+        let opens_val = opens_key || self.last.val != e.val;
+        Counts {
+            nk: self.nk + opens_key as usize,
+            nv: self.nv + opens_val as usize,
+            nt: self.nt + 1,
             last: e,
-        };
+        }
     }
-    if last.key != e.key {
-        return Counts {
-            nk: nk + 1,
-            nv: nv + 1,
-            nt,
-            last: e,
-        };
+
+    // Stores the entry that was counted last. The ends of its lists are the counts so far, until a later entry of the list stores its own.
+    // Kept: the output and its places in one struct would need a clause in each function that the places stay.
+    fn store(self, out: &mut [u64], places: Contents)
+        requires roomy { Roomy places self out.old }
+        requires some { Some self }
+        ensures { out.new ≡ stored places self out.old }
+    {
+        let last = self.last;
+        let k = self.nk - 1;
+        let v = self.nv - 1;
+        let t = self.nt - 1;
+        out[places.keys_at + k] = last.key;
+        out[places.val_ends_at + k] = self.nv as u64;
+        out[places.vals_at + v] = last.val;
+        out[places.time_ends_at + v] = self.nt as u64;
+        out[places.times_at + t] = last.time;
+        out[places.diff_ends_at + t] = self.nt as u64;
+        out[places.diffs_at + t] = last.diff;
     }
-    if last.val != e.val {
-        return Counts {
-            nk,
-            nv: nv + 1,
-            nt,
-            last: e,
-        };
-    }
-    Counts {
-        nk,
-        nv,
-        nt,
-        last: e,
+
+    // Counts the entry `e` and stores it, if it stands.
+    fn push(self, out: &mut [u64], places: Contents, e: Update) -> Counts
+        requires counting { Counting (2 ^ 62) self }
+        requires roomy { Roomy places (pushed self (entry_of e)) out.old }
+        ensures { Pushed places self e out.old result out.new }
+    {
+        if e.diff == 0 {
+            return self;
+        }
+        let more = self.with(e);
+        more.store(out, places);
+        more
     }
 }
 
-// Stores the entry that was counted last. The ends of its lists are the counts so far, until a later entry of the list stores its own.
-fn store(out: &mut [u64], places: Contents, c: Counts)
-    requires roomy { Roomy places c out.old }
-    requires some { Some c }
-    ensures { out.new ≡ stored places c out.old }
-{
-    let last = c.last;
-    let k = c.nk - 1;
-    let v = c.nv - 1;
-    let t = c.nt - 1;
-    let keys_at = places.keys_at;
-    let val_ends_at = places.val_ends_at;
-    let vals_at = places.vals_at;
-    let time_ends_at = places.time_ends_at;
-    let times_at = places.times_at;
-    let diff_ends_at = places.diff_ends_at;
-    let diffs_at = places.diffs_at;
-    out[keys_at + k] = last.key;
-    out[val_ends_at + k] = c.nv as u64;
-    out[vals_at + v] = last.val;
-    out[time_ends_at + v] = c.nt as u64;
-    out[times_at + t] = last.time;
-    out[diff_ends_at + t] = c.nt as u64;
-    out[diffs_at + t] = last.diff;
-}
-
-// Counts the entry `e` and stores it, if it stands.
-fn push(out: &mut [u64], places: Contents, c: Counts, e: Update) -> Counts
-    requires counting { Counting (2 ^ 62) c }
-    requires roomy { Roomy places (pushed c (entry_of e)) out.old }
-    ensures { Pushed places c e out.old result out.new }
-{
-    if e.diff == 0 {
-        return c;
-    }
-    let more = count(c, e);
-    store(out, places, more);
-    more
-}
-
-// One update more at the pending position.
-fn take_same(state: Consolidating, u: Update) -> Consolidating
-    requires { same (entry_of state.pending) (entry_of u) ≡ true }
-    ensures { Taken state u result }
-{
-    let counts = state.counts;
-    let pending = state.pending;
-    let sum = join(pending, u);
-    Consolidating {
-        counts,
-        pending: sum,
+impl Consolidating {
+    // One update more in the pass that writes.
+    fn take(self, out: &mut [u64], places: Contents, u: Update) -> Consolidating
+        requires counting { Counting (2 ^ 62) self.counts }
+        requires roomy { Roomy places (next_counts self.counts (entry_of self.pending) (entry_of u)) out.old }
+        ensures { Stored places self u out.old result out.new }
+    {
+        if same_position(self.pending, u) {
+            let pending = join(self.pending, u);
+            return Consolidating { pending, ..self };
+        }
+        let counts = self.counts.push(out, places, self.pending);
+        Consolidating { counts, pending: u }
     }
 }
 
-// One update more in the pass that writes.
-fn take_write(out: &mut [u64], places: Contents, state: Consolidating, u: Update) -> Consolidating
-    requires counting { Counting (2 ^ 62) state.counts }
-    requires roomy { Roomy places (next_counts state.counts (entry_of state.pending) (entry_of u)) out.old }
-    ensures { Stored places state u out.old result out.new }
-{
-    let pending = state.pending;
-    if same_position(pending, u) {
-        return take_same(state, u);
+impl Tally {
+    // The sizes with the pending entry added, where it ends. It is the first of its key, or of its value, where none is counted yet.
+    fn sizes_after(self, ends: bool) -> Sizes
+        requires { Sized (2 ^ 62) self.sizes }
+        ensures { result ≡ sizes_after self ends }
+    {
+        let sizes = self.sizes;
+        Sizes {
+            nk: sizes.nk + (ends & !self.keyed) as usize,
+            nv: sizes.nv + (ends & !self.valued) as usize,
+            nt: sizes.nt + ends as usize,
+        }
     }
-    let counts = state.counts;
-    let more = push(out, places, counts, pending);
-    Consolidating {
-        counts: more,
-        pending: u,
-    }
-}
 
-// 1 where a test holds, else 0.
-fn bit_of(b: bool) -> usize
-    ensures { result ≡ bit b }
-{
-    if b {
-        return 1;
-    }
-    0
-}
-
-// The word where a test holds, else 0.
-fn word_if(b: bool, word: u64) -> u64
-    ensures { result ≡ (if b then word else 0) }
-{
-    if b {
-        return word;
-    }
-    0
-}
-
-// Before the first entry.
-fn no_sizes() -> Sizes
-    ensures { result ≡ no_sizes }
-{
-    Sizes {
-        nk: 0,
-        nv: 0,
-        nt: 0,
-    }
-}
-
-// The sizes with the pending entry added, where it ends. It is the first of its key, or of its value, where none is counted yet.
-fn sizes_after(t: Tally, ends: bool) -> Sizes
-    requires { Sized (2 ^ 62) t.sizes }
-    ensures { result ≡ sizes_after t ends }
-{
-    let sizes = t.sizes;
-    Sizes {
-        nk: sizes.nk + bit_of(ends & !t.keyed),
-        nv: sizes.nv + bit_of(ends & !t.valued),
-        nt: sizes.nt + bit_of(ends),
+    // One update more in the pass that counts.
+    fn take(self, u: Update) -> Tally
+        requires { Sized (2 ^ 62) self.sizes }
+        ensures { result ≡ tallied self (entry_of u) }
+    {
+        let a = self.pending;
+        let same_key = a.key == u.key;
+        let same_val = same_key & (a.val == u.val);
+        let alike = same_val & (a.time == u.time);
+        let ends = !alike & (a.diff != 0);
+        let sizes = self.sizes_after(ends);
+        let pending = follow(a, u, alike);
+        Tally {
+            sizes,
+            pending,
+            keyed: same_key & (self.keyed | ends),
+            valued: same_val & (self.valued | ends),
+        }
     }
 }
 
@@ -322,96 +208,48 @@ fn follow(a: Update, b: Update, alike: bool) -> Update
     requires { alike ≡ same (entry_of a) (entry_of b) }
     ensures { entry_of result ≡ next_pending (entry_of a) (entry_of b) }
 {
+    let before = if alike { a.diff } else { 0 };
     Update {
-        key: b.key,
-        val: b.val,
-        time: b.time,
-        diff: wrapping_add_u64(word_if(alike, a.diff), b.diff),
+        diff: before.wrapping_add(b.diff),
+        ..b
     }
 }
 
-// One update more in the pass that counts.
-fn take_count(t: Tally, u: Update) -> Tally
-    requires { Sized (2 ^ 62) t.sizes }
-    ensures { result ≡ tallied t (entry_of u) }
-{
-    let a = t.pending;
-    let same_key = a.key == u.key;
-    let same_val = same_key & (a.val == u.val);
-    let alike = same_val & (a.time == u.time);
-    let ends = !alike & (a.diff != 0);
-    let sizes = sizes_after(t, ends);
-    let pending = follow(a, u, alike);
-    Tally {
-        sizes,
-        pending,
-        keyed: same_key & (t.keyed | ends),
-        valued: same_val & (t.valued | ends),
-    }
-}
-
-// A first pass that ends in a refusal.
-fn refused(number: u64) -> Found
-    ensures { result ≡ record { number = number; sizes = no_sizes } }
-{
-    let sizes = no_sizes();
-    Found { number, sizes }
-}
-
-// The first pass: whether a position falls, whether each diff is in range, and the sizes of what is formed.
-fn survey(words: &[u64]) -> Found
+// The first pass: the sizes of what is formed; 3 where a position falls, else 4 where a diff is out of range.
+#[tactic(auto, using(sort::proofs::Updates::count_whole))]
+fn survey(words: &[u64]) -> Result<Sizes, Refusal>
     ensures { Surveyed (updates words.now) result }
 {
-    let sizes = no_sizes();
-    let pending = no_update();
-    let mut state = Tally {
-        sizes,
-        pending,
-        keyed: false,
-        valued: false,
-    };
+    let mut state = Tally::default();
     let mut fell = false;
     let mut inside = true;
-    let mut at = 0;
-    while at + 3 < words.len() {
-        let next = update_at(words, at);
-        let previous = state.pending;
-        fell = fell | precedes(next, previous);
-        inside = still_in_range(inside, next);
-        state = take_count(state, next);
-        at += 4;
+    for i in 0..words.len() / 4 {
+        let next = Update::read(words, i);
+        fell |= precedes(next, state.pending);
+        inside &= in_range(next);
+        state = state.take(next);
     }
     if fell {
-        return refused(3);
+        return Err(Refusal::Falls);
     }
     if !inside {
-        return refused(4);
+        return Err(Refusal::OutOfRange);
     }
-    let last = state.pending;
-    let all = sizes_after(state, last.diff != 0);
-    Found {
-        number: 0,
-        sizes: all,
-    }
+    Ok(state.sizes_after(state.pending.diff != 0))
 }
 
 // The second pass: stores each entry that is formed.
+#[tactic(auto, using(sort::proofs::Updates::count_whole))]
 fn write_entries(sorted: &[u64], out: &mut [u64], places: Contents)
     requires { Placed (updates sorted.now) places out.old }
     ensures { out.new ≡ write_from places no_counts (formed (updates sorted.now)) out.old }
 {
-    let counts = no_counts();
-    let pending = no_update();
-    let mut state = Consolidating { counts, pending };
-    let mut at = 0;
-    while at + 3 < sorted.len() {
-        let next = update_at(sorted, at);
-        state = take_write(out, places, state, next);
-        at += 4;
+    let mut state = Consolidating::default();
+    for i in 0..sorted.len() / 4 {
+        let next = Update::read(sorted, i);
+        state = state.take(out, places, next);
     }
-    let done = state.counts;
-    let last = state.pending;
-    push(out, places, done, last);
+    state.counts.push(out, places, state.pending);
 }
 
 // Writes the chunk of what is formed, whose sizes the first pass found.
@@ -420,84 +258,65 @@ fn form_sorted(words: &[u64], out: &mut [u64], sizes: Sizes)
     requires accepts { Accepts (updates words.now) out.old }
     ensures { out.new ≡ over (chunk_of (formed (updates words.now))) out.old }
 {
-    let nk = sizes.nk;
-    let nv = sizes.nv;
-    let nt = sizes.nt;
-    let places = layout(nk, nv, nt, nt);
+    let Sizes { nk, nv, nt } = sizes;
     write_table(out, nk, nv, nt, nt);
-    write_entries(words, out, places);
+    write_entries(words, out, places(nk, nv, nt, nt));
 }
 
-// The refusal of this many words of updates: 1 where they are not four each, 2 where the updates are too many, 0 where neither is so.
-fn miscounted(words: usize) -> u64
-    ensures { result ≡ count_number words }
+// How many updates this many words are; 1 where they are not four each, 2 where the updates are too many.
+fn counted(words: usize) -> Result<usize, Refusal>
+    ensures { Counted words result }
 {
     if words % 4 != 0 {
-        return 1;
+        return Err(Refusal::Ragged);
     }
-    if LIMIT < words / 4 {
-        return 2;
+    let count = words / 4;
+    if LIMIT < count {
+        return Err(Refusal::TooMany);
     }
-    0
+    Ok(count)
 }
 
 // The settled chunk of updates that never fall, at the front of `out`: equal positions added, zero sums dropped.
-pub fn form(updates: &[u64], out: &mut [u64]) -> u64
-    ensures { FormAnswers updates.now out.old result out.new }
+pub fn form(updates: &[u64], out: &mut [u64]) -> Result<(), Refusal>
+    ensures { FormAnswers updates.now out.old (answer_number result) out.new }
 {
-    let words = updates.len();
-    let miscount = miscounted(words);
-    if miscount != 0 {
-        return miscount;
-    }
-    let count = words / 4;
-    let found = survey(updates);
-    let number = found.number;
-    if number != 0 {
-        return number;
-    }
+    let count = counted(updates.len())?;
+    let sizes = survey(updates)?;
     if out.len() < ROOM + ROOM_EACH * count {
-        return 13;
+        return Err(Refusal::OutputShort);
     }
-    let sizes = found.sizes;
     form_sorted(updates, out, sizes);
-    0
+    Ok(())
 }
 
 // Whether each update's diff is in range.
+#[tactic(auto, using(sort::proofs::Updates::count_whole))]
 fn all_in_range(words: &[u64]) -> bool
     ensures { result ≡ every in_range (updates words.now) }
 {
     let mut within = true;
-    let mut at = 0;
-    while at + 3 < words.len() {
-        let next = update_at(words, at);
-        within = still_in_range(within, next);
-        at += 4;
+    for i in 0..words.len() / 4 {
+        let next = Update::read(words, i);
+        within &= in_range(next);
     }
     within
 }
 
 // The settled chunk of updates in any order, at the front of `out`. Where the call is accepted, the updates are left sorted by key,
 // value, time, then signed diff.
-pub fn form_unsorted(updates: &mut [u64], out: &mut [u64]) -> u64
-    ensures { UnsortedAnswers updates.old out.old result updates.new out.new }
+pub fn form_unsorted(updates: &mut [u64], out: &mut [u64]) -> Result<(), Refusal>
+    ensures { UnsortedAnswers updates.old out.old (answer_number result) updates.new out.new }
 {
-    let words = updates.len();
-    let miscount = miscounted(words);
-    if miscount != 0 {
-        return miscount;
-    }
-    let count = words / 4;
+    let count = counted(updates.len())?;
     if !all_in_range(updates) {
-        return 4;
+        return Err(Refusal::OutOfRange);
     }
     if out.len() < ROOM + ROOM_EACH * count {
-        return 13;
+        return Err(Refusal::OutputShort);
     }
     sort_updates(updates);
-    let found = survey(updates);
-    let sizes = found.sizes;
+    let sizes = survey(updates)?;
     form_sorted(updates, out, sizes);
-    0
+    Ok(())
 }

@@ -1,37 +1,20 @@
 -- A merge in words: the survivor that goes out, and the ways that the merge beneath goes.
-use Prim.Native.Nat.{ℕ, zero, suc, ◌≤◌, ◌<◌}
+use Prim.Native.Nat.{ℕ, zero, suc, ◌≤◌}
 use mathlib.Core.Path.{◌≡◌, refl, sym, ◌∙◌, ap}
 use mathlib.Core.Bool.{Bool, cond}
 use mathlib.Core.List.{List}
 use lib.ListN.{length}
-use borrow.Author.Tests.{lt-ltb, le-ltb}
-use Rattle.chunk.specs.Words.{over, entries}
-use Rattle.merge.specs.declared.Survivor.{Survivor}
-use Rattle.merge.specs.declared.Joined.{Joined}
+use borrow.Author.Tests.{le-ltb}
+use Rattle.chunk.specs.Words.{entries}
 use Rattle.reports.specs.Merge.{Survives, survivor, merge_number, merge_out}
-use Rattle.merge.specs.Outcome.{survivor_of, answer_by, merge_answer, MergeAnswers}
+use Rattle.merge.specs.Outcome.{Joined, survivor_of, answer_by, merge_answer, MergeAnswers}
 use Rattle.whole.specs.Whole.{whole_number, clean_out, left_out, WholeAnswers}
 use Rattle.host.specs.Answers.{number_in, laid_by, Answers}
 use Rattle.host.specs.Merges.{survivor_words, left_words, once_lent, Said, PairAnswers, AllAnswers}
-use Rattle.host.proofs.Laid.{kept_by, with_room, answers_short}
+use Rattle.host.proofs.Laid.{with_room}
 
--- the words of a survivor that is known
-pub words_known : (s t : Survivor) (after l : List ℕ) → s ≡ t → after ≡ over (survivor_words t) l → after ≡ over (survivor_words s) l
-words_known s t after l e a = a ∙ ap (λ (x : Survivor). over (survivor_words x) l) (sym e)
-
-module _ (j : Joined) (l : List ℕ) where
-  pub said_refused : (j.number ≡ 0 → ⊥) → Said j l j.number l
-  said_refused bad = record { returned = refl; laid = kept_by j.number (survivor_words j.survivor) l bad }
-
-  pub said_laid : j.number ≡ 0 → (after : List ℕ) → after ≡ over (survivor_words j.survivor) l → Said j l 0 after
-  said_laid good after a =
-      record { returned = sym good; laid = a ∙ ap (λ (n : ℕ). laid_by n (survivor_words j.survivor) l) (sym good) }
-
--- a slice that is lent with too short an answer, and with room for it
-pub lent_short : (l old new : List ℕ) → length l < 4 → old ≡ once_lent l old new
-lent_short l old new h = sym (ap (λ (t : Bool). cond t old new) (lt-ltb (length l) 4 h))
-
-pub lent_room : (l old new : List ℕ) → 4 ≤ length l → new ≡ once_lent l old new
+-- a slice that is lent with room for the answer
+lent_room : (l old new : List ℕ) → 4 ≤ length l → new ≡ once_lent l old new
 lent_room l old new h = sym (ap (λ (t : Bool). cond t old new) (le-ltb (length l) 4 h))
 
 -- an answer by its number and who survives, in words
@@ -54,16 +37,6 @@ module _ (n : ℕ) (s : Survives) (j : Joined) (e : j ≡ answer_by n s) (l : Li
       }
 
 module _ (a b scratch out answer : List ℕ) where
-  pub pair_short : length answer < 4 → PairAnswers a b scratch out answer 13 answer out scratch
-  pair_short h =
-      let u : Answers (number_in 4 (merge_number a b scratch out) answer) (laid_by (number_in 4 (merge_number a b scratch out) answer) (left_words a b) answer) 13 answer = answers_short 4 (merge_number a b scratch out) (left_words a b) answer h in
-      record {
-        returned = u.returned;
-        answered = u.laid;
-        merges = lent_short answer out (merge_out a b scratch out) h;
-        untouched = λ bad. refl;
-      }
-
   module _ (h : 4 ≤ length answer) (j : Joined) (after used : List ℕ) (m : MergeAnswers a b scratch out j after used) where
     answer-is : j ≡ answer_by (merge_number a b scratch out) (survivor (entries a) (entries b))
     unfolding merge_answer
@@ -80,18 +53,6 @@ module _ (a b scratch out answer : List ℕ) where
         }
 
 module _ (a b scratch out clean rest answer : List ℕ) where
-  pub all_short : length answer < 4 → AllAnswers a b scratch out clean rest answer 13 answer out clean rest scratch
-  all_short h =
-      let u : Answers (number_in 4 (whole_number a b scratch out clean rest) answer) (laid_by (number_in 4 (whole_number a b scratch out clean rest) answer) (left_words a b) answer) 13 answer = answers_short 4 (whole_number a b scratch out clean rest) (left_words a b) answer h in
-      record {
-        returned = u.returned;
-        answered = u.laid;
-        merges = lent_short answer out (merge_out a b scratch out) h;
-        filters = lent_short answer clean (clean_out a b scratch out clean) h;
-        leaves = lent_short answer rest (left_out a b scratch out clean rest) h;
-        untouched = λ bad. refl;
-      }
-
   module _ (h : 4 ≤ length answer) (j : Joined) (after cleaned left used : List ℕ) (m : WholeAnswers a b scratch out clean rest j after cleaned left used) where
     pub all_said : (r : ℕ) (answered : List ℕ) → Said j answer r answered → AllAnswers a b scratch out clean rest answer r answered after cleaned left used
     all_said r answered u =

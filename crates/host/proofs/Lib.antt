@@ -1,6 +1,4 @@
 -- Laws of this crate's proofs that belong to no one function.
 pub mod Laid
-pub mod Stepping
-pub mod Parting
 pub mod Surveying
 pub mod Joining

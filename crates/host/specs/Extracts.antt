@@ -6,7 +6,7 @@ use Rattle.retain.specs.declared.Verdict.{Verdict}
 use Rattle.retain.specs.declared.Frontier.{Frontier}
 use Rattle.retain.specs.declared.Extracted.{Extracted}
 use Rattle.retain.specs.Extract.{extract_number, kept_out, shipped_out}
-use Rattle.retain.specs.Answer.{verdict_number, extracted_as}
+use Rattle.retain.specs.Answer.{verdict_number, extracted_of}
 use Rattle.host.specs.Answers.{short, laid_by}
 
 -- the frontier that 129 words say: a count, and 128 places
@@ -21,11 +21,11 @@ extract_words v f = verdict_number v ∷ f.count ∷ f.corners
 abbrev pub number_under : List ℕ → Frontier → List ℕ → List ℕ → ℕ
 number_under w f kept shipped = extract_number f.count f.corners w kept shipped
 
--- and its whole answer
-abbrev pub extracted_under : List ℕ → Frontier → List ℕ → List ℕ → Extracted
-extracted_under w f kept shipped = extracted_as (number_under w f kept shipped) (take f.count f.corners) (entries w)
+-- and what it says where it is accepted
+abbrev pub extracted_under : List ℕ → Frontier → Extracted
+extracted_under w f = extracted_of (take f.count f.corners) (entries w)
 
--- the words of a whole answer
+-- the words of what it says
 abbrev pub answer_words : Extracted → List ℕ
 answer_words r = extract_words r.verdict r.frontier
 
@@ -36,6 +36,6 @@ extract_short upper answer a b = short 129 130 upper answer a b
 -- what `rl_extract` promises: its number, and the words of the answer and of both outputs afterwards
 pub record ExtractAnswers (w upper answer kept shipped : List ℕ) (r : ℕ) (answer_after kept_after shipped_after : List ℕ) : Type 0 where
   pub returned : r ≡ extract_short upper answer 13 (number_under w (frontier_in upper) kept shipped)
-  pub answered : answer_after ≡ extract_short upper answer answer (laid_by (number_under w (frontier_in upper) kept shipped) (answer_words (extracted_under w (frontier_in upper) kept shipped)) answer)
+  pub answered : answer_after ≡ extract_short upper answer answer (laid_by (number_under w (frontier_in upper) kept shipped) (answer_words (extracted_under w (frontier_in upper))) answer)
   pub keeps : kept_after ≡ extract_short upper answer kept (kept_out (frontier_in upper).count (frontier_in upper).corners w kept shipped)
   pub ships : shipped_after ≡ extract_short upper answer shipped (shipped_out (frontier_in upper).count (frontier_in upper).corners w kept shipped)

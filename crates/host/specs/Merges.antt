@@ -4,9 +4,8 @@ use Rattle.std.specs.Prelude.{ℕ, ◌≡◌, cond, List, [], ◌∷◌, ltb, le
 use Rattle.chunk.specs.Words.{entries}
 use Rattle.merge.specs.declared.Survivor.{Survivor}
 use Rattle.merge.specs.declared.Survivor.TheVariants.{Nobody, First, Second}
-use Rattle.merge.specs.declared.Joined.{Joined}
 use Rattle.reports.specs.Merge.{survivor, merge_number, merge_out}
-use Rattle.merge.specs.Outcome.{survivor_of}
+use Rattle.merge.specs.Outcome.{Joined, survivor_of}
 use Rattle.reports.specs.Refusals.{Refused}
 use Rattle.whole.specs.Whole.{whole_number, clean_out, left_out}
 use Rattle.host.specs.Answers.{number_in, laid_by}
@@ -14,8 +13,8 @@ use Rattle.host.specs.Answers.{number_in, laid_by}
 -- an answer's words: who survives (0 nobody, 1 the first, 2 the second), and the cursor, zeros where nobody does
 abbrev pub survivor_words : Survivor → List ℕ
 survivor_words Nobody = 0 ∷ 0 ∷ 0 ∷ 0 ∷ []
-survivor_words (First k v t) = 1 ∷ k ∷ v ∷ t ∷ []
-survivor_words (Second k v t) = 2 ∷ k ∷ v ∷ t ∷ []
+survivor_words (First c) = 1 ∷ c.k ∷ c.v ∷ c.t ∷ []
+survivor_words (Second c) = 2 ∷ c.k ∷ c.v ∷ c.t ∷ []
 
 -- those of the survivor of two chunks
 abbrev pub left_words : List ℕ → List ℕ → List ℕ

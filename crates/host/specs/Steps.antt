@@ -1,12 +1,11 @@
 -- A step of a walk in words (document 01, "Walk": "A walker lent by the caller and advanced in place gives the records one by one, then
 -- says done and stays"; it answers 5, walker unchanged).
-use Rattle.std.specs.Prelude.{ℕ, ◌≡◌, List, [], ◌∷◌, get_or}
+use Rattle.std.specs.Prelude.{ℕ, ◌≡◌, List, [], ◌∷◌, get_or, Some, None, Ok, Err}
 use Rattle.chunk.specs.Words.{over}
+use Rattle.chunk.specs.Answer.{number_of as refusal_number}
 use Rattle.walk.specs.declared.Walker.{Walker}
 use Rattle.walk.specs.declared.Record.{Record}
-use Rattle.walk.specs.declared.Stepped.{Stepped}
-use Rattle.walk.specs.declared.Stepped.TheVariants.{Gave, Done, Refused}
-use Rattle.walk.specs.Answer.{place_of, stepped_by}
+use Rattle.walk.specs.Answer.{Stepped, place_of, stepped_by}
 use Rattle.walk.specs.Walk.{step}
 use Rattle.host.specs.Answers.{walker_words, short}
 
@@ -27,23 +26,23 @@ went_from w walker = stepped_by (step w (place_of (walker_in walker)))
 abbrev pub done_number : ℕ
 done_number = 100
 
--- what a step returns: 0 with a record, `done_number` where none is left, 5 where it is refused
+-- what a step returns: 0 with a record, `done_number` where none is left, the refusal's number (5) where it is refused
 abbrev pub number_of : Stepped → ℕ
-number_of (Gave e p) = 0
-number_of Done = done_number
-number_of Refused = 5
+number_of (Ok (Some (e, p))) = 0
+number_of (Ok None) = done_number
+number_of (Err r) = refusal_number r
 
 -- the walker's words afterwards: past the record where one is given, else as they were
 abbrev pub walker_of : Stepped → List ℕ → List ℕ
-walker_of (Gave e p) l = over (walker_words p) l
-walker_of Done l = l
-walker_of Refused l = l
+walker_of (Ok (Some (e, p))) l = over (walker_words p) l
+walker_of (Ok None) l = l
+walker_of (Err r) l = l
 
 -- the record's words afterwards: the record where one is given, else as they were
 abbrev pub record_of : Stepped → List ℕ → List ℕ
-record_of (Gave e p) l = over (record_words e) l
-record_of Done l = l
-record_of Refused l = l
+record_of (Ok (Some (e, p))) l = over (record_words e) l
+record_of (Ok None) l = l
+record_of (Err r) l = l
 
 -- the choice of a step: the first where the walker or the record has too few words, else the second
 abbrev pub step_short {ℓ} : {A : Type ℓ} → List ℕ → List ℕ → A → A → A

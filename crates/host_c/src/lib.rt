@@ -14,6 +14,7 @@ ghost use Rattle.host.specs.Merges.{PairAnswers, AllAnswers};
 ghost use Rattle.host.specs.Steps.{StepAnswers};
 
 // The check of a chunk; its answer is settled (0 or 1), nk, nv, nt, nd.
+// Kept: each hands on what it is given, since a crate is a library or a static library, and the yard uses the calls as a library.
 #[unsafe(no_mangle)]
 pub extern "C" fn rl_check(words: &[u64], answer: &mut [u64]) -> u64
     ensures { Answers (check_number words.now answer.old) (check_answer words.now answer.old) result answer.new }

@@ -9,7 +9,7 @@ use Rattle.chunk.specs.Entry.{Entry}
 use Rattle.chunk.specs.Bodies.{keys, vals, times, diffs, val_ends, time_ends, diff_ends}
 use Rattle.chunk.specs.Words.{well_formed, entries, key_body, val_end_body, val_body, time_end_body, time_body, diff_end_body, diff_body, nk, nv, nt}
 use Rattle.chunk.specs.declared.Contents.{Contents}
-use Rattle.chunk.specs.Contents.{contents_of, Placed}
+use Rattle.chunk.specs.Contents.{contents_in, Placed}
 use Rattle.chunk.proofs.Placed.{placed, length_keys, length_val_ends, length_vals, length_time_ends, length_times}
 use Rattle.laws.specs.Picked.{Over, part}
 use Rattle.laws.proofs.OneChunk.{bodies_in}
@@ -45,28 +45,28 @@ module _ (w : List ℕ) (f : well_formed w ≡ true) where
   diffs_in_lem = ap (λ (s : Seven). s.diff_list) (bodies_in w f)
 
   -- where they stand
-  pub its_place : Placed (contents_of w) w
+  pub its_place : Placed (contents_in w) w
   its_place = placed w (parts w f).table_fits
 
   pub val_rows : length (key_body w) ≡ length (val_end_body w)
-  val_rows = length_keys (contents_of w) w its_place ∙ sym (length_val_ends (contents_of w) w its_place)
+  val_rows = length_keys (contents_in w) w its_place ∙ sym (length_val_ends (contents_in w) w its_place)
 
   pub time_rows_lem : length (val_body w) ≡ length (time_end_body w)
-  time_rows_lem = length_vals (contents_of w) w its_place ∙ sym (length_time_ends (contents_of w) w its_place)
+  time_rows_lem = length_vals (contents_in w) w its_place ∙ sym (length_time_ends (contents_in w) w its_place)
 
   -- the values stand below the keys, and the times below the values
   pub over_vals_lem : Over (key_body w) (val_end_body w) (length (val_body w))
-  over_vals_lem = record { rows = val_rows; rises = record { rise = rise_rises 0 (val_end_body w) (nv w) (parts w f).val_ends_rise; last = rise_last (val_end_body w) (nv w) (parts w f).val_ends_rise ∙ sym (length_vals (contents_of w) w its_place) } }
+  over_vals_lem = record { rows = val_rows; rises = record { rise = rise_rises 0 (val_end_body w) (nv w) (parts w f).val_ends_rise; last = rise_last (val_end_body w) (nv w) (parts w f).val_ends_rise ∙ sym (length_vals (contents_in w) w its_place) } }
 
   pub over_times_lem : Over (val_body w) (time_end_body w) (length (time_body w))
-  over_times_lem = record { rows = time_rows_lem; rises = record { rise = rise_rises 0 (time_end_body w) (nt w) (parts w f).time_ends_rise; last = rise_last (time_end_body w) (nt w) (parts w f).time_ends_rise ∙ sym (length_times (contents_of w) w its_place) } }
+  over_times_lem = record { rows = time_rows_lem; rises = record { rise = rise_rises 0 (time_end_body w) (nt w) (parts w f).time_ends_rise; last = rise_last (time_end_body w) (nt w) (parts w f).time_ends_rise ∙ sym (length_times (contents_in w) w its_place) } }
 
   -- no more keys than values, and no more values than times
   pub keys_few_lem : nk w ≤ nv w
-  keys_few_lem = let a = capped 0 (nv w) (val_end_body w) (parts w f).val_ends_rise in let b = length_val_ends (contents_of w) w its_place in omega arith
+  keys_few_lem = let a = capped 0 (nv w) (val_end_body w) (parts w f).val_ends_rise in let b = length_val_ends (contents_in w) w its_place in omega arith
 
   pub vals_few_lem : nv w ≤ nt w
-  vals_few_lem = let a = capped 0 (nt w) (time_end_body w) (parts w f).time_ends_rise in let b = length_time_ends (contents_of w) w its_place in omega arith
+  vals_few_lem = let a = capped 0 (nt w) (time_end_body w) (parts w f).time_ends_rise in let b = length_time_ends (contents_in w) w its_place in omega arith
 
 -- ---- the parts that are cut out
 

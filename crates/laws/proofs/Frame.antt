@@ -10,7 +10,7 @@ use lib.Seq.{take_at, drop_at, take-add, drop-drop}
 use borrow.Author.Tests.{leb-true, le-leb, eqb-true, ne_eqb, lt-ltb}
 use Rattle.chunk.specs.Entry.{every}
 use Rattle.chunk.specs.Words.{nk, nv, nt, nd, table_size, size, table_fits, body, key_body, val_end_body, val_body, time_end_body, time_body, diff_end_body, diff_body, lists, ends_rise, ends_step, rises, limit, all_or_none, well_formed}
-use Rattle.chunk.specs.Contents.{contents_of}
+use Rattle.chunk.specs.Contents.{contents_in}
 pub use Rattle.chunk.proofs.WellFormed.{Parts, parts, whole}
 use Rattle.chunk.proofs.Placed as placed
 use Rattle.chunk.proofs.Falling.{capped}
@@ -163,25 +163,25 @@ module _ (w : List ℕ) (h : table_fits w ≡ true) where
   long = leb-true _ _ (and_left _ _ h)
 
   pub length_keys : length (key_body w) ≡ nk w
-  length_keys = placed.length_keys (contents_of w) w (placed.placed w h)
+  length_keys = placed.length_keys (contents_in w) w (placed.placed w h)
 
   pub length_val_ends : length (val_end_body w) ≡ nk w
-  length_val_ends = placed.length_val_ends (contents_of w) w (placed.placed w h)
+  length_val_ends = placed.length_val_ends (contents_in w) w (placed.placed w h)
 
   pub length_vals : length (val_body w) ≡ nv w
-  length_vals = placed.length_vals (contents_of w) w (placed.placed w h)
+  length_vals = placed.length_vals (contents_in w) w (placed.placed w h)
 
   pub length_time_ends : length (time_end_body w) ≡ nv w
-  length_time_ends = placed.length_time_ends (contents_of w) w (placed.placed w h)
+  length_time_ends = placed.length_time_ends (contents_in w) w (placed.placed w h)
 
   pub length_times : length (time_body w) ≡ nt w
-  length_times = placed.length_times (contents_of w) w (placed.placed w h)
+  length_times = placed.length_times (contents_in w) w (placed.placed w h)
 
   pub length_diff_ends : length (diff_end_body w) ≡ nt w
-  length_diff_ends = placed.length_diff_ends (contents_of w) w (placed.placed w h)
+  length_diff_ends = placed.length_diff_ends (contents_in w) w (placed.placed w h)
 
   pub length_diffs : length (diff_body w) ≡ nd w
-  length_diffs = placed.length_diffs (contents_of w) w (placed.placed w h)
+  length_diffs = placed.length_diffs (contents_in w) w (placed.placed w h)
 
   -- the words of a slice up to its size are its table and its bodies
   pub front_words : take (size w) w ≡ words_of (in_words w)

@@ -19,4 +19,3 @@ pub mod Bodies
 pub mod Stores
 pub mod Parts
 pub mod Whole
-pub mod Checked

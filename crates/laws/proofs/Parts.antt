@@ -7,32 +7,38 @@ use lib.ListN.{length, take, drop, length-append, length-drop}
 use lib.Seq.{take_at, drop_at, drop-drop, length-take-le}
 use mir.Val.{Fits}
 use mir.Syntax.{w64}
-use borrow.Author.Tests.{le-leb}
+use borrow.Author.Tests.{le-leb, leb-true, leb-false, lt-ltb, le-ltb}
+use lib.Dec.{leb, ltb}
+use Rattle.std.specs.Prelude.{is_none}
+use Rattle.laws.proofs.Tests.{by_test}
 use borrow.Rule.Slice.PartMut.{put_mid}
 use Rattle.chunk.specs.declared.Contents.{Contents}
 use Rattle.chunk.specs.Words.{limit, table_size, over}
-use Rattle.chunk.specs.Contents.{layout_within, layout_of, with_table, table_of}
+use Rattle.chunk.specs.Contents.{layout_of, layout_within, with_table, table_of}
 
--- where the parts of an output are, once its counts are within the limit
+-- where the parts of an output are
 pub record Spots (lay : Contents) (k v t : ℕ) : Type 0 where
   pub keys_placed : lay.keys_at ≡ 4
   pub vals_placed : lay.vals_at ≡ 4 + 2 * k
   pub times_placed : lay.times_at ≡ 4 + 2 * k + 2 * v
   pub sized : lay.size ≡ 4 + 2 * k + 2 * v + 2 * t + t
 
-within : (k v t d : ℕ) → k ≤ limit → v ≤ limit → t ≤ limit → d ≤ limit → layout_within k v t d ≡ layout_of k v t d
-unfolding layout_within
-within k v t d a b e f = simp (le-leb k limit a, le-leb v limit b, le-leb t limit e, le-leb d limit f)
-
-pub spots : (lay : Contents) (k v t : ℕ) → lay ≡ layout_within k v t t → k ≤ limit → v ≤ limit → t ≤ limit → Spots lay k v t
-spots lay k v t e a b d =
-    let q : lay ≡ layout_of k v t t = e ∙ within k v t t a b d d in
+pub spots : (lay : Contents) (k v t : ℕ) → lay ≡ layout_of k v t t → Spots lay k v t
+spots lay k v t q =
     record {
       keys_placed = ap (λ (l : Contents). l.keys_at) q;
       vals_placed = ap (λ (l : Contents). l.vals_at) q;
       times_placed = ap (λ (l : Contents). l.times_at) q;
       sized = ap (λ (l : Contents). l.size) q;
     }
+
+-- an output with so many times has no layout exactly where they are too many
+pub too_many_times : (n : ℕ) → is_none (layout_within 0 0 n 0) ≡ ltb limit n
+unfolding layout_within
+too_many_times n =
+    by_test (leb n limit)
+    (λ h. simp (h, le-leb 0 limit (omega arith), le-ltb limit n (leb-true n limit h)))
+    (λ h. simp (h, le-leb 0 limit (omega arith), lt-ltb limit n (leb-false n limit h)))
 
 -- the places of three parts behind the table, within so many words, and few
 pub record OutCuts (lay : Contents) (k v t room : ℕ) : Type 0 where
@@ -48,9 +54,9 @@ pub record OutCuts (lay : Contents) (k v t room : ℕ) : Type 0 where
   pub times_small : Fits w64 (lay.times_at * 8)
   pub table_in : 4 ≤ room
 
-pub out_cuts : (lay : Contents) (k v t room : ℕ) → lay ≡ layout_within k v t t → k ≤ limit → v ≤ limit → t ≤ limit → table_size + 2 * k + 2 * v + 2 * t + t ≤ room → OutCuts lay k v t room
+pub out_cuts : (lay : Contents) (k v t room : ℕ) → lay ≡ layout_of k v t t → k ≤ limit → v ≤ limit → t ≤ limit → table_size + 2 * k + 2 * v + 2 * t + t ≤ room → OutCuts lay k v t room
 out_cuts lay k v t room e a b d h =
-    let s = spots lay k v t e a b d in
+    let s = spots lay k v t e in
     let s1 = s.keys_placed in let s2 = s.vals_placed in let s3 = s.times_placed in let s4 = s.sized in
     record {
       keys_placed = s1;

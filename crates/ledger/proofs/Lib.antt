@@ -9,6 +9,7 @@ pub mod Ordered
 pub mod Tests
 pub mod Merging
 pub mod Refusals
+pub mod Numbered
 pub mod Settles
 pub mod Outcomes
 pub mod Steps

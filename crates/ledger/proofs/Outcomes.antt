@@ -3,7 +3,6 @@ use Prim.Native.Nat.{ℕ, zero, suc}
 use mathlib.Core.Path.{◌≡◌, refl, sym, ap, ◌∙◌}
 use mathlib.Core.List.{List, ◌∷◌}
 use Rattle.chunk.specs.Entry.{Entry}
-use Rattle.retain.specs.Answer.{extracted_as}
 use Rattle.reports.specs.Merge.{Survives}
 use Rattle.merge.specs.Outcome.{answer_by}
 use Rattle.whole.specs.Whole.{survives_of, survives, whole_number, clean_out, left_out}
@@ -23,15 +22,9 @@ pub split_step : SplitStep
 unfolding after
 split_step s i n one two there o h = rw (there, h.number, h.first, h.rest)
 
--- an extract's answer has its number
-extracted_number : (n : ℕ) (corners : List ℕ) (es : List Entry) → (extracted_as n corners es).number ≡ n
-unfolding extracted_as
-extracted_number zero corners es = refl
-extracted_number (suc n) corners es = refl
-
 pub extract_step : ExtractStep
 unfolding after
-extract_step s i count corners kept shipped there o h = rw (there, h.answer, extracted_number, h.keeps, h.ships)
+extract_step s i count corners kept shipped there o h = rw (there, h.number, h.keeps, h.ships)
 
 pub meld_step : MeldStep
 unfolding after

@@ -13,6 +13,7 @@ use lib.Signed.{mag}
 use Rattle.chunk.specs.Entry.{change, before, every}
 use Rattle.chunk.specs.Words.{entries, nt, well_formed, settled}
 use Rattle.chunk.specs.Refusal.{first, refuse, malformed, unsettled, empty}
+use Rattle.chunk.specs.Answer.{answer_number}
 use Rattle.chunk.specs.Check.{checked_of, checked_as}
 use Rattle.chunk.specs.Sums.{sum_fits}
 use Rattle.sort.specs.Sort.{updates}
@@ -174,11 +175,11 @@ unfolding every
 meld_refuses a b out = rw meld_first (goes_by (meld_tests a b out) (meld_rows a b out) refl
     (negated 5 _, λ f. (unsettled-row a f, λ _. (negated 5 _, λ g. (unsettled-row b g, λ _. (less 2 _ _, λ _. (past_row a b, λ _. (less 13 _ _, λ _. tt))))))))
 
-pub check_refuses : (w : List ℕ) → GoesBy (check_rows w) (checked_of w).number
+pub check_refuses : (w : List ℕ) → GoesBy (check_rows w) (answer_number (checked_of w))
 unfolding every first checked_of
 check_refuses w = rw (checked_number w) (goes_by (malformed w ∷ []) (check_rows w) refl (negated 5 _, λ _. tt))
   where
-    checked_number : (w : List ℕ) → (checked_as (well_formed w) w).number ≡ first (malformed w ∷ [])
+    checked_number : (w : List ℕ) → answer_number (checked_as (well_formed w) w) ≡ first (malformed w ∷ [])
     checked_number w = by_test (well_formed w) (λ h. simp h) (λ h. simp h)
 
 -- nt is the number of entries of a well formed chunk

@@ -1,12 +1,14 @@
 -- Each promise settles its outcome: it says what the answer and each lent slice are, so two outcomes are that one.
 use Prim.Native.Nat.{ℕ}
-use mathlib.Core.Path.{◌≡◌, sym, ap, ◌∙◌}
+use mathlib.Core.Path.{◌≡◌, refl, sym, ap, ◌∙◌}
+use Rattle.std.specs.Prelude.{Ok, Err}
 use mathlib.Core.List.{List}
 use lib.ListN.{length}
 use Rattle.reports.specs.Merge.{merge_number, merge_out}
-use Rattle.merge.specs.Outcome.{answer_by, merge_answer}
+use Rattle.merge.specs.Outcome.{Joined, answer_by, merge_answer}
+use Rattle.ledger.proofs.Numbered.{one_number, none_of, one_answer}
 use Rattle.whole.specs.Whole.{survives, whole_number, clean_out, left_out}
-use Rattle.ledger.specs.Settles.{Two, Three, CheckSettles, FormSettles, UnsortedSettles, FilterSettles, SplitSettles, SuffixSettles, MeldSettles, ContentsSettles, LayoutSettles, TableSettles, ChildSettles, EarlierSettles, BelowSettles, SortSettles, CopySettles, ShiftSettles, ExtractSettles, FrontierSettles, RunSettles, StartSettles, StepSettles, AdvanceSettles, BeginSettles, StepInPlaceSettles, StartInPlaceSettles, NextSettles, PlanSettles, SurveySettles, ListedSettles, MergeSettles, WholeSettles, ScratchIdle, WholeScratchIdle}
+use Rattle.ledger.specs.Settles.{Two, Three, AnswerSettles, JoinedSettles, CheckSettles, FormSettles, UnsortedSettles, FilterSettles, SplitSettles, SuffixSettles, MeldSettles, ContentsSettles, LayoutSettles, TableSettles, ChildSettles, EarlierSettles, BelowSettles, SortSettles, CopySettles, ShiftSettles, ExtractSettles, FrontierSettles, RunSettles, StartSettles, StepSettles, AdvanceSettles, BeginSettles, StepInPlaceSettles, StartInPlaceSettles, NextSettles, PlanSettles, SurveySettles, ListedSettles, MergeSettles, WholeSettles, ScratchIdle, WholeScratchIdle}
 
 -- the one law: what a promise says by an equation is settled
 pub settled : {A : Type 0} {x y z : A} → x ≡ z → y ≡ z → x ≡ y
@@ -21,6 +23,18 @@ two o q h k l = λ i. (h i, k i, l i)
 
 three : {A : Type 0} (o q : Three A) → o.0 ≡ q.0 → o.1 ≡ q.1 → o.2 ≡ q.2 → o.3 ≡ q.3 → o ≡ q
 three o q h k l m = λ i. (h i, k i, l i, m i)
+
+pub answer_settles : AnswerSettles
+answer_settles (Ok x) (Ok y) e = refl
+answer_settles (Ok x) (Err r) e = absurd (none_of r e)
+answer_settles (Err r) (Ok y) e = absurd (none_of r (sym e))
+answer_settles (Err r) (Err s) e = ap Err (one_number r s e)
+
+pub joined_settles : JoinedSettles
+joined_settles (Ok x) (Ok y) e = ap (λ (j : Joined). Ok j.survivor) e
+joined_settles (Ok x) (Err r) e = absurd (none_of r (ap (λ (j : Joined). j.number) e))
+joined_settles (Err r) (Ok y) e = absurd (none_of r (sym (ap (λ (j : Joined). j.number) e)))
+joined_settles (Err r) (Err s) e = ap Err (one_number r s (ap (λ (j : Joined). j.number) e))
 
 pub check_settles : CheckSettles
 check_settles w o q h k = settled h k
@@ -71,7 +85,7 @@ pub shift_settles : ShiftSettles
 shift_settles by dst ends o q h k = settled h k
 
 pub extract_settles : ExtractSettles
-extract_settles count corners w kept shipped o q h k = two o q (settled h.answer k.answer) (settled h.keeps k.keeps) (settled h.ships k.ships)
+extract_settles count corners w kept shipped o q h k = two o q (one_answer o.0 q.0 _ (settled h.number k.number) h.answer k.answer) (settled h.keeps k.keeps) (settled h.ships k.ships)
 
 pub frontier_settles : FrontierSettles
 frontier_settles o q h k = settled h k

@@ -1,13 +1,15 @@
 -- The ledger is about the code: what a call does to the held chunks is said by any outcome that the public function's promise allows, by its
 -- answer and by the slices lent to write to, as they stand afterwards. Each statement is a type here, and a theorem of proofs/Outcomes.antt.
-use Rattle.std.specs.Prelude.{ℕ, ◌≡◌, true, List, [], ◌∷◌, ◌++◌}
+use Rattle.std.specs.Prelude.{ℕ, ◌≡◌, true, List, [], ◌∷◌, ◌++◌, Result}
+use Rattle.chunk.specs.declared.Refusal.{Refusal}
+use Rattle.chunk.specs.Answer.{answer_number}
 use Rattle.sort.specs.Sort.{updates}
 use Rattle.form.specs.Form.{FormAnswers, UnsortedAnswers}
 use Rattle.split.specs.Cut.{Split}
 use Rattle.retain.specs.declared.Extracted.{Extracted}
 use Rattle.retain.specs.Answer.{Extraction}
 use Rattle.meld.specs.Meld.{Melded}
-use Rattle.merge.specs.declared.Joined.{Joined}
+use Rattle.merge.specs.Outcome.{Joined}
 use Rattle.whole.specs.Whole.{survives_of, WholeAnswers}
 use Rattle.ledger.specs.Settles.{One, Two, Three}
 use Rattle.ledger.specs.Ledger.{State, form, form_unsorted, split, extract, meld, merge, at, without, without_two, holds, holds_two, accepted, swap, rest_held, after}
@@ -33,9 +35,9 @@ SplitStep =
 -- extract: both outputs are held, for the chunk
 abbrev pub ExtractStep : Type 0
 ExtractStep =
-    (s : State) (i count : ℕ) (corners kept shipped : List ℕ) → holds s i ≡ true → (o : Two Extracted)
+    (s : State) (i count : ℕ) (corners kept shipped : List ℕ) → holds s i ≡ true → (o : Two (Result Extracted Refusal))
     → Extraction o.0 o.1 o.2 count corners (at s i) kept shipped
-    → after s (extract i count corners kept shipped) ≡ accepted o.0.number (swap s (without i s.held) (o.1 ∷ o.2 ∷ [])) s
+    → after s (extract i count corners kept shipped) ≡ accepted (answer_number o.0) (swap s (without i s.held) (o.1 ∷ o.2 ∷ [])) s
 
 -- meld: its output is held, for both chunks
 abbrev pub MeldStep : Type 0

@@ -1,19 +1,21 @@
 -- "For any call, two outcomes that its promise allows are shown equal", and "no answer may depend on what scratch held" (document 01,
 -- "What the promises have to settle"). An outcome is the answer and every slice lent to write to, as it stands afterwards; what a promise
 -- allows is what the public function ensures. Each statement is a type here, and a theorem of proofs/Settles.antt.
-use Rattle.std.specs.Prelude.{ℕ, ◌≡◌, Bool, List, length}
+use Rattle.std.specs.Prelude.{ℕ, ◌≡◌, Bool, List, length, Option, Result}
 use Rattle.chunk.specs.declared.Checked.{Checked}
 use Rattle.chunk.specs.declared.Contents.{Contents}
 use Rattle.chunk.specs.declared.Range.{Range}
+use Rattle.chunk.specs.declared.Refusal.{Refusal}
+use Rattle.chunk.specs.Answer.{answer_number}
 use Rattle.chunk.specs.Time.{earlier, at_or_below}
 use Rattle.chunk.specs.Contents.{contents_of, layout_within, with_table, child_range}
 use Rattle.chunk.specs.Check.{checked_of}
 use Rattle.sort.specs.Sort.{sorted_words}
 use Rattle.form.specs.Form.{FormAnswers, UnsortedAnswers}
-use Rattle.merge.specs.declared.Joined.{Joined}
+use Rattle.merge.specs.declared.Survivor.{Survivor}
 use Rattle.reports.specs.Merge.{Place, merge_number, suffix_number, suffix_out}
 use Rattle.reports.specs.Refusals.{Refused}
-use Rattle.merge.specs.Outcome.{MergeAnswers}
+use Rattle.merge.specs.Outcome.{Joined, joined_of, MergeAnswers}
 use Rattle.reports.specs.Run.{run_of}
 use Rattle.retain.specs.Cut.{filter_number, filter_out}
 use Rattle.split.specs.Cut.{Split}
@@ -25,18 +27,14 @@ use Rattle.meld.specs.Copy.{copied, shifted_all}
 use Rattle.meld.specs.Meld.{Melded}
 use Rattle.whole.specs.Whole.{WholeAnswers}
 use Rattle.walk.specs.declared.Walker.{Walker}
-use Rattle.walk.specs.declared.Started.{Started}
-use Rattle.walk.specs.declared.Stepped.{Stepped}
 use Rattle.walk.specs.Walk.{step}
-use Rattle.walk.specs.Answer.{place_of, started_of, stepped_by}
-use Rattle.walker.specs.declared.Taken.{Taken}
+use Rattle.walk.specs.Answer.{Started, Stepped, place_of, started_of, stepped_by}
 use Rattle.walker.specs.declared.Advanced.{Advanced}
 use Rattle.walker.specs.declared.Begun.{Begun}
-use Rattle.walker.specs.Lent.{stepped_from, taken_of, walker_after, advanced_to, walker_from, begun_at}
+use Rattle.walker.specs.Lent.{Taken, stepped_from, taken_of, walker_after, advanced_to, begun_of, walker_from, begun_at}
 use Rattle.survey.specs.declared.Report.{Report}
 use Rattle.survey.specs.declared.Spot.{Spot}
 use Rattle.survey.specs.declared.Next.{Next}
-use Rattle.survey.specs.declared.Surveyed.{Surveyed}
 use Rattle.survey.specs.declared.Listed.{Listed}
 use Rattle.survey.specs.Reports.{next_of, surveyed_of, filled_of, listed_of}
 
@@ -56,11 +54,19 @@ Two A = A × List ℕ × List ℕ
 abbrev pub Three : Type 0 → Type 0
 Three A = A × List ℕ × List ℕ × List ℕ
 
+-- an answer that says nothing but its number is settled by it: of form, form_unsorted, filter_zero, split_at, suffix_chunk and meld
+abbrev pub AnswerSettles : Type 0
+AnswerSettles = (o q : Result (Unit {0}) Refusal) → answer_number o ≡ answer_number q → o ≡ q
+
+-- and an answer of a merge by its number and its survivor
+abbrev pub JoinedSettles : Type 0
+JoinedSettles = (o q : Result Survivor Refusal) → joined_of o ≡ joined_of q → o ≡ q
+
 -- ---- the calls
 
 -- check writes to nothing
 abbrev pub CheckSettles : Type 0
-CheckSettles = (w : List ℕ) → Settled (λ (o : Checked). o ≡ checked_of w)
+CheckSettles = (w : List ℕ) → Settled (λ (o : Result Checked Refusal). o ≡ checked_of w)
 
 -- form
 abbrev pub FormSettles : Type 0
@@ -81,7 +87,7 @@ SplitSettles = (w : List ℕ) (n : ℕ) (one two : List ℕ) → Settled (λ (o 
 -- extract, its answer with all 128 places of the frontier
 abbrev pub ExtractSettles : Type 0
 ExtractSettles =
-    (count : ℕ) (corners w kept shipped : List ℕ) → Settled (λ (o : Two Extracted). Extraction o.0 o.1 o.2 count corners w kept shipped)
+    (count : ℕ) (corners w kept shipped : List ℕ) → Settled (λ (o : Two (Result Extracted Refusal)). Extraction o.0 o.1 o.2 count corners w kept shipped)
 
 -- suffix_chunk
 abbrev pub SuffixSettles : Type 0
@@ -95,11 +101,11 @@ MeldSettles = (a b out : List ℕ) → Settled (λ (o : One ℕ). Melded a b out
 
 -- read_contents
 abbrev pub ContentsSettles : Type 0
-ContentsSettles = (w : List ℕ) → Settled (λ (o : Contents). o ≡ contents_of w)
+ContentsSettles = (w : List ℕ) → Settled (λ (o : Option Contents). o ≡ contents_of w)
 
 -- layout
 abbrev pub LayoutSettles : Type 0
-LayoutSettles = (k v t d : ℕ) → Settled (λ (o : Contents). o ≡ layout_within k v t d)
+LayoutSettles = (k v t d : ℕ) → Settled (λ (o : Option Contents). o ≡ layout_within k v t d)
 
 -- write_table
 abbrev pub TableSettles : Type 0
@@ -165,23 +171,23 @@ StepInPlaceSettles =
 abbrev pub StartInPlaceSettles : Type 0
 StartInPlaceSettles =
     (words : List ℕ) (w : Walker)
-    → Settled (λ (o : ℕ × Walker). (o.0 ≡ (started_of words).number) × (o.1 ≡ walker_from w (started_of words)))
+    → Settled (λ (o : Result (Unit {0}) Refusal × Walker). (o.0 ≡ begun_of (started_of words)) × (o.1 ≡ walker_from w (started_of words)))
 
 -- ---- survey
 
 -- next_report
 abbrev pub NextSettles : Type 0
-NextSettles = (a b : List ℕ) (spot : Spot) → Settled (λ (o : Next). o ≡ next_of a b spot)
+NextSettles = (a b : List ℕ) (spot : Spot) → Settled (λ (o : Option Next). o ≡ next_of a b spot)
 
 -- plan
 abbrev pub PlanSettles : Type 0
-PlanSettles = (a b : List ℕ) (lent : ℕ) → Settled (λ (o : Surveyed). o ≡ surveyed_of a b lent)
+PlanSettles = (a b : List ℕ) (lent : ℕ) → Settled (λ (o : Result ℕ Refusal). o ≡ surveyed_of a b lent)
 
 -- survey, with every lent report afterwards
 abbrev pub SurveySettles : Type 0
 SurveySettles =
     (a b : List ℕ) (lent : List Report)
-    → Settled (λ (o : Surveyed × List Report). (o.0 ≡ surveyed_of a b (length lent)) × (o.1 ≡ filled_of a b lent))
+    → Settled (λ (o : Result ℕ Refusal × List Report). (o.0 ≡ surveyed_of a b (length lent)) × (o.1 ≡ filled_of a b lent))
 
 -- survey_listed
 abbrev pub ListedSettles : Type 0

@@ -1,5 +1,5 @@
 -- A copy loop: before turn i the front holds the first i of the source, and past them what was lent.
-use Rattle.std.proofs.Common.{◌≡◌, ℕ, zero, suc, ◌+◌, ◌-◌, ◌%◌, ◌^◌, ◌<◌, ◌≤◌, true, List, ◌∷◌, ◌++◌, length, get_or, take, drop, set, sym, refl, ap, ◌∙◌, append-nil, add-one, arith, drop_of_length-le, length-take-le, take_all, drop-cons, take-suc}
+use Rattle.std.proofs.Common.{◌≡◌, ℕ, zero, suc, ◌+◌, ◌-◌, ◌%◌, ◌^◌, ◌<◌, ◌≤◌, true, List, ◌∷◌, ◌++◌, length, get_or, take, drop, set, sym, refl, ap, ◌∙◌, append-nil, add-one, arith, drop_of_length-le, length-take-le, take_all, drop-cons, take-suc, min, leb, leb-true, leb-false}
 use lib.Seq.{set_at, append_snoc, sets}
 use borrow.Rule.Slice.PartMut.{put_mid}
 use Rattle.chunk.specs.Bodies.{chunk_of}
@@ -7,6 +7,7 @@ use Rattle.chunk.specs.Words.{well_formed, entries, over, size}
 use Rattle.laws.specs.Picked.{count_up}
 use Rattle.laws.proofs.Picked.{length-count_up}
 use Rattle.laws.proofs.Parts.{part_length}
+use Rattle.laws.proofs.Tests.{by_test}
 use Rattle.laws.proofs.Stores.{sets_front, sets_whole, put_sets}
 use Rattle.laws.proofs.Whole.{as_it_is}
 use Rattle.meld.specs.Copy.{copied, counted_on}
@@ -22,19 +23,17 @@ stepped dst src i z h k e q =
     (set_at (take i src) (get_or dst i 0) (drop (suc i) dst) (get_or src i z) i (length-take-le i src (omega arith))
     ∙ rw (add-one, take-suc src i z h, append_snoc))
 
--- at the source's end
-pub copied_all : (dst src : List ℕ) (i : ℕ) → i ≤ length src → i ≤ length dst → length src ≤ i → partly dst src i ≡ copied dst src
+-- where the shorter of the two ends
+pub copied_least : (dst src : List ℕ) (i : ℕ) → i ≡ min (length dst) (length src) → partly dst src i ≡ copied dst src
 unfolding copied
-copied_all dst src i h k e =
-    let q : i ≡ length src = omega arith in
-    rw (q, take_all (length src) src (omega arith), take_all (length dst) src (omega arith))
-
--- at the destination's end
-pub copied_full : (dst src : List ℕ) (i : ℕ) → i ≤ length src → i ≤ length dst → length dst ≤ i → partly dst src i ≡ copied dst src
-unfolding copied
-copied_full dst src i h k e =
-    let q : i ≡ length dst = omega arith in
-    rw (q, drop_of_length-le dst {i = length dst} (omega arith), drop_of_length-le dst {i = length src} (omega arith))
+copied_least dst src i q =
+    by_test (leb (length dst) (length src))
+    (λ h. let l = leb-true _ _ h in
+    let e : i ≡ length dst = omega arith in
+    rw (e, drop_of_length-le dst {i = length dst} (omega arith), drop_of_length-le dst {i = length src} (omega arith)))
+    (λ h. let l = leb-false _ _ h in
+    let e : i ≡ length src = omega arith in
+    rw (e, take_all (length src) src (omega arith), take_all (length dst) src (omega arith)))
 
 -- at the destination's end, whatever the source
 pub partly_end : (dst src : List ℕ) (i : ℕ) → i ≤ length dst → length dst ≤ i → partly dst src i ≡ take (length dst) src

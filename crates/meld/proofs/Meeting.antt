@@ -1,55 +1,29 @@
 -- How two chunks meet, by the last item of each layer of the first and the first item of each layer of the second.
-use Rattle.std.proofs.Common.{◌≡◌, ℕ, suc, ◌-◌, ◌≤◌, Bool, true, false, cond, ◌||◌, eqb, ltb, List, [], ◌∷◌, map, length, get_or, sym, refl, ◌∙◌, arith, le-ltb, eq-eqb, ne_eqb, eqb-true}
+use Rattle.std.proofs.Common.{◌≡◌, ℕ, suc, ◌-◌, ◌≤◌, Bool, true, false, cond, ap, eqb, List, [], ◌∷◌, map, length, get_or, sym, refl, ◌∙◌, arith, eqb-true}
+use Rattle.std.specs.Prelude.{Some, None}
 use Rattle.laws.proofs.Tests.{by_test, and_right}
 use Rattle.chunk.specs.Entry.{Entry, before, same_list}
 use Rattle.chunk.specs.Bodies.{lasts_of, same_key}
 use Rattle.chunk.specs.Words.{head_or_0}
-use Rattle.meld.specs.declared.Position.{Position}
 use Rattle.meld.specs.declared.Seam.{Seam}
 use Rattle.meld.specs.Meld.{follows, last_before}
-use Rattle.meld.specs.Seam.{shared, shared_with, last_or_0, last_position, first_position, as_entry, seam_at, seam_of}
+use Rattle.meld.specs.Seam.{shared, shared_with, last_or_0, last_position, first_position, as_entry, seam_at, seam_of, where_past}
 use Rattle.meld.proofs.Append.{lasts_some}
 
 -- the last word by its place
-pub no_last : (l : List ℕ) → length l ≡ 0 → 0 ≡ last_or_0 l
+pub last_at : (l : List ℕ) → get_or l (length l - 1) 0 ≡ last_or_0 l
 unfolding last_or_0
-no_last [] h = refl
-no_last (a ∷ l) h = absurd (omega arith)
-
-pub last_at : (l : List ℕ) → (length l ≡ 0 → ⊥) → get_or l (length l - 1) 0 ≡ last_or_0 l
-unfolding last_or_0
-last_at [] h = absurd (h refl)
-last_at (a ∷ []) h = refl
-last_at (a ∷ b ∷ l) h =
+last_at [] = refl
+last_at (a ∷ []) = refl
+last_at (a ∷ b ∷ l) =
     let q : suc (suc (length l)) - 1 ≡ suc (suc (length l) - 1) = omega arith in
-    rw q (last_at (b ∷ l) (λ e. omega arith))
+    rw q (last_at (b ∷ l))
 
 -- the first word by its place
-pub no_first : (l : List ℕ) → length l ≡ 0 → 0 ≡ head_or_0 l
-unfolding head_or_0
-no_first [] h = refl
-no_first (a ∷ l) h = absurd (omega arith)
-
 pub first_at : (l : List ℕ) → get_or l 0 0 ≡ head_or_0 l
 unfolding head_or_0
 first_at [] = refl
 first_at (a ∷ l) = refl
-
-or-false : (b : Bool) → (b || false) ≡ b
-or-false true = refl
-or-false false = refl
-
--- other keys
-pub seam_keys : (x y : Position) → (x.key ≡ y.key → ⊥) → ◌≡◌ {A = Seam} (record { follows = ltb x.key y.key; keys = 0; vals = 0 }) (seam_at (as_entry x) (as_entry y))
-seam_keys x y h = simp (ne_eqb _ _ h, or-false)
-
--- one key, other values
-pub seam_vals : (x y : Position) → x.key ≡ y.key → (x.val ≡ y.val → ⊥) → ◌≡◌ {A = Seam} (record { follows = ltb x.val y.val; keys = 1; vals = 0 }) (seam_at (as_entry x) (as_entry y))
-seam_vals x y k h = simp (le-ltb x.key y.key (omega arith), eq-eqb _ _ k, ne_eqb _ _ h, or-false)
-
--- one key and one value
-pub seam_times : (x y : Position) → x.key ≡ y.key → x.val ≡ y.val → ◌≡◌ {A = Seam} (record { follows = ltb x.time y.time; keys = 1; vals = 1 }) (seam_at (as_entry x) (as_entry y))
-seam_times x y k v = simp (le-ltb x.key y.key (omega arith), le-ltb x.val y.val (omega arith), eq-eqb _ _ k, eq-eqb _ _ v)
 
 -- the last entry
 unfoldable pub last_of : Entry → List Entry → Entry
@@ -114,8 +88,8 @@ seam_some (e ∷ es) [] h k = absurd (k refl)
 seam_some (e ∷ es) (f ∷ fs) h k =
     rw (last_position_lem e es, first_position_lem f fs, follows_at e es f fs, shared_last same_key e es f fs, shared_last same_list e es f fs)
 
--- with none there is nothing to compare
-pub seam_first_none : (es fs : List Entry) → length es ≡ 0 → ◌≡◌ {A = Seam} (record { follows = true; keys = 0; vals = 0 }) (seam_of es fs)
+-- with none in the first there is nothing to compare
+pub seam_first_none : (es fs : List Entry) → length es ≡ 0 → Some (record { keys = 0; vals = 0 }) ≡ seam_of es fs
 unfolding seam_of follows shared
 seam_first_none [] fs h = refl
 seam_first_none (e ∷ es) fs h = absurd (omega arith)
@@ -132,7 +106,31 @@ shared-none same [] = refl
 shared-none same (e ∷ []) = refl
 shared-none same (e ∷ c ∷ es) = shared-none same (c ∷ es)
 
-pub seam_second_none : (es fs : List Entry) → length fs ≡ 0 → ◌≡◌ {A = Seam} (record { follows = true; keys = 0; vals = 0 }) (seam_of es fs)
+pub seam_second_none : (es fs : List Entry) → length fs ≡ 0 → Some (record { keys = 0; vals = 0 }) ≡ seam_of es fs
 unfolding seam_of
 seam_second_none es [] h = rw (← follows-none es, ← shared-none same_key es, ← shared-none same_list es)
 seam_second_none es (f ∷ fs) h = absurd (omega arith)
+
+-- what it says that there is a seam, or none
+pub record Met (seam : Seam) (es fs : List Entry) : Type 0 where
+  pub past : follows es fs ≡ true
+  pub keys_shared : seam.keys ≡ shared same_key es fs
+  pub vals_shared : seam.vals ≡ shared same_list es fs
+
+past_by : (b : Bool) (s t : Seam) → where_past b s ≡ Some t → (b ≡ true) × (t ≡ s)
+past_by true s t h = (refl, cc)
+past_by false s t h = cc
+
+pub met_by : (es fs : List Entry) (seam : Seam) → seam_of es fs ≡ Some seam → Met seam es fs
+unfolding seam_of
+met_by es fs seam h =
+    let p = past_by (follows es fs) _ seam h in
+    record { past = p.0; keys_shared = ap (λ (s : Seam). s.keys) p.1; vals_shared = ap (λ (s : Seam). s.vals) p.1 }
+
+behind_by : (b : Bool) (s : Seam) → where_past b s ≡ None → b ≡ false
+behind_by true s h = cc
+behind_by false s h = refl
+
+pub unmet_by : (es fs : List Entry) → seam_of es fs ≡ None → follows es fs ≡ false
+unfolding seam_of
+unmet_by es fs h = behind_by (follows es fs) _ h

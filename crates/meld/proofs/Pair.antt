@@ -1,78 +1,58 @@
 -- Two chunks and an output: what each test of a meld says of them, and that with none refused the chunk of both is written.
-use Rattle.std.proofs.Common.{◌≡◌, ℕ, ◌+◌, ◌-◌, ◌<◌, ◌≤◌, true, false, leb, List, ◌++◌, length, sym, ap, ◌∙◌, arith, length-append, leb-false, leb-true}
+use Rattle.std.proofs.Common.{◌≡◌, ℕ, ◌+◌, ◌-◌, ◌<◌, ◌≤◌, Bool, true, false, not, List, ◌++◌, length, sym, refl, ap, ◌∙◌, arith, length-append, ltb-true, ltb-false}
+use Rattle.std.specs.Prelude.{Option, Some, None, is_some, is_none}
 use Rattle.chunk.specs.declared.Contents.{Contents}
-use Rattle.chunk.specs.declared.Checked.{Checked}
-use Rattle.chunk.specs.Check.{checked_of}
 use Rattle.chunk.specs.Bodies.{keys, vals, times, diffs}
-use Rattle.chunk.specs.Words.{well_formed, entries, nt, limit}
-use Rattle.chunk.specs.Contents.{contents_of, layout_of}
-use Rattle.chunk.proofs.Placed.{placed}
-use Rattle.chunk.proofs.WellFormed.{parts}
-use Rattle.laws.proofs.OneChunk.{front_is_chunk}
+use Rattle.chunk.specs.Words.{well_formed, entries, nt, limit, size, table_size}
+use Rattle.chunk.specs.Contents.{layout_of, layout_within}
+use Rattle.laws.proofs.Parts.{too_many_times}
 use Rattle.meld.specs.declared.Seam.{Seam}
-use Rattle.meld.specs.Meld.{follows, PairMelded}
-use Rattle.meld.specs.Seam.{Holds, Both, seam_of}
+use Rattle.meld.specs.Meld.{PairMelded}
 use Rattle.meld.specs.Laid.{laid, Counted}
-use Rattle.meld.specs.Accepted.{refusal_of}
 use Rattle.meld.proofs.Read.{bodied}
 use Rattle.meld.proofs.Counts.{keys_count, vals_count, diffs-count, times-count}
 use Rattle.meld.proofs.Laid.{counted, laid_chunk}
-use Rattle.meld.proofs.Numbers.{many, behind, short, taken, taken_formed, taken-contents}
+use Rattle.meld.proofs.Meeting.{Met}
+use Rattle.meld.proofs.Numbers.{short, taken}
 
--- a well formed slice holds the chunk of its entries
-pub holds : (w : List ℕ) → well_formed w ≡ true → Holds (contents_of w) w (entries w)
-holds w h = record { placed = placed w (parts w h).table_fits; front = (front_is_chunk w h).front }
+none_is : (o : Option Contents) (b : Bool) → is_some o ≡ not b → b ≡ is_none o
+none_is None true h = refl
+none_is None false h = cc
+none_is (Some x) true h = cc
+none_is (Some x) false h = refl
 
--- and so does one that its check takes
-pub checked_holds : (c : Checked) (w : List ℕ) → c ≡ checked_of w → refusal_of c ≡ 0 → Holds c.contents w (entries w)
-checked_holds c w e h =
-    let f = taken_formed w (rw e at h) in
-    rw (e, taken-contents w f) (holds w f)
+-- there is no layout for so many times exactly where they are too many
+pub times_many : {n m : ℕ} {o : Option Contents} {b : Bool} → o ≡ layout_within 0 0 n 0 → is_some o ≡ not b → n ≡ m → b ≡ true → limit < m
+times_many {n} {m} {o} {b} e h q k = rw q at (ltb-true limit n (sym (none_is o b h ∙ ap is_none e ∙ too_many_times n) ∙ k))
 
-module _ (front back : Contents) (a b out : List ℕ) (both : Both front back a b) where
-  pub too_many : leb (front.nt + back.nt) limit ≡ false → PairMelded a b out 2 out
-  too_many h = many a b out (omega (arith, leb-false (front.nt + back.nt) limit h, both.first.placed.time_count, both.second.placed.time_count))
+pub times_few : {n m : ℕ} {o : Option Contents} {b : Bool} → o ≡ layout_within 0 0 n 0 → is_some o ≡ not b → n ≡ m → b ≡ false → m ≤ limit
+times_few {n} {m} {o} {b} e h q k = rw q at (ltb-false limit n (sym (none_is o b h ∙ ap is_none e ∙ too_many_times n) ∙ k))
 
-  few : leb (front.nt + back.nt) limit ≡ true → nt a + nt b ≤ limit
-  few h = omega (arith, leb-true (front.nt + back.nt) limit h, both.first.placed.time_count, both.second.placed.time_count)
+module _ (a b out : List ℕ) (ha : well_formed a ≡ true) (hb : well_formed b ≡ true) (few : nt a + nt b ≤ limit) (seam : Seam) (met : Met seam (entries a) (entries b)) where
+  few-entries : length (entries a) + length (entries b) ≤ limit
+  few-entries = omega (arith, (bodied a ha).time_count, (bodied b hb).time_count)
 
-  few-entries : leb (front.nt + back.nt) limit ≡ true → length (entries a) + length (entries b) ≤ limit
-  few-entries h =
-      omega (arith, leb-true (front.nt + back.nt) limit h, (bodied front a (entries a) both.first).time_count, (bodied back b (entries b) both.second).time_count)
+  pub no_room : length out < size a + (size b - table_size) → PairMelded a b out 13 out
+  no_room l = short a b out few met.past (omega arith)
 
-  module _ (h : leb (front.nt + back.nt) limit ≡ true) (seam : Seam) (met : seam ≡ seam_of (entries a) (entries b)) where
-    follow : follows (entries a) (entries b) ≡ seam.follows
-    unfolding seam_of
-    follow = sym (ap (λ (s : Seam). s.follows) met)
+  pub counts : Counted seam a b
+  counts = counted seam a b (entries a) (entries b) (bodied a ha) (bodied b hb) met few-entries
 
-    pub not_past_lem : seam.follows ≡ false → PairMelded a b out 11 out
-    not_past_lem k = behind a b out (few h) (follow ∙ k)
+  room : size a + (size b - table_size) ≤ length out
+      → (layout_of (length (keys (entries a ++ entries b))) (length (vals (entries a ++ entries b))) (length (times (entries a ++ entries b))) (length (diffs (entries a ++ entries b)))).size ≤ length out
+  room l =
+      let f = bodied a ha in
+      let g = bodied b hb in
+      omega (
+        arith,
+        keys_count (entries a) (entries b),
+        vals_count (entries a) (entries b),
+        diffs-count (entries a) (entries b),
+        times-count (entries a ++ entries b),
+        length-append (entries a) (entries b),
+      )
 
-    pub no_room : seam.follows ≡ true → length out < front.size + (back.size - back.keys_at) → PairMelded a b out 13 out
-    no_room k l =
-        short a b out (few h) (follow ∙ k) (omega (arith, both.first.placed.sized, both.second.placed.sized, both.second.placed.keys_placed))
-
-    pub counts : Counted front back seam
-    counts = counted front back seam a b (entries a) (entries b) (bodied front a (entries a) both.first) (bodied back b (entries b) both.second) met (few-entries h)
-
-    room : front.size + (back.size - back.keys_at) ≤ length out
-        → (layout_of (length (keys (entries a ++ entries b))) (length (vals (entries a ++ entries b))) (length (times (entries a ++ entries b))) (length (diffs (entries a ++ entries b)))).size ≤ length out
-    room l =
-        let f = bodied front a (entries a) both.first in
-        let g = bodied back b (entries b) both.second in
-        let p = both.first.placed in
-        let q = both.second.placed in
-        omega (
-          arith,
-          keys_count (entries a) (entries b),
-          vals_count (entries a) (entries b),
-          diffs-count (entries a) (entries b),
-          times-count (entries a ++ entries b),
-          length-append (entries a) (entries b),
-        )
-
-    pub melded : {after : List ℕ} → seam.follows ≡ true → front.size + (back.size - back.keys_at) ≤ length out
-        → after ≡ laid front back seam a b out → PairMelded a b out 0 after
-    melded k l e =
-        taken a b out (few h) (follow ∙ k) (omega (arith, both.first.placed.sized, both.second.placed.sized, both.second.placed.keys_placed))
-        (e ∙ laid_chunk front back seam a b (entries a) (entries b) (bodied front a (entries a) both.first) (bodied back b (entries b) both.second) met (few-entries h) out (room l))
+  pub melded : {after : List ℕ} → size a + (size b - table_size) ≤ length out → after ≡ laid seam a b out → PairMelded a b out 0 after
+  melded l e =
+      taken a b out few met.past (omega arith)
+      (e ∙ laid_chunk seam a b (entries a) (entries b) (bodied a ha) (bodied b hb) met few-entries out (room l))

@@ -1,11 +1,10 @@
 -- Words put into their places one after another: what is written so far stands at the front, and past it what was lent.
-use Rattle.std.proofs.Common.{◌≡◌, ℕ, zero, suc, ◌+◌, ◌-◌, ◌^◌, ◌<◌, ◌≤◌, List, [], ◌∷◌, ◌++◌, length, get_or, take, drop, sym, refl, ap, ◌∙◌, append_assoc, append-nil, arith, length-append, length-drop, drop_of_length-le, length-take-le, take_all, drop-drop, le-leb}
+use Rattle.std.proofs.Common.{◌≡◌, ℕ, zero, suc, ◌+◌, ◌-◌, ◌^◌, ◌<◌, ◌≤◌, List, [], ◌∷◌, ◌++◌, length, get_or, take, drop, refl, ap, ◌∙◌, append_assoc, append-nil, arith, length-append, length-drop, drop_of_length-le, length-take-le, take_all, drop-drop}
 use lib.ListN.{length-map}
-use lib.Seq.{take-nil, drop-append-add, take-append_seam}
-use borrow.Author.Tests.{lt-leb}
+use lib.Seq.{drop-append-add, take-append_seam}
 use borrow.Rule.Slice.PartMut.{put_mid}
-use Rattle.chunk.specs.Words.{over, body}
-use Rattle.meld.specs.Copy.{copied, shifted, shifted_all, gone, placed, placed_in}
+use Rattle.chunk.specs.Words.{over}
+use Rattle.meld.specs.Copy.{copied, shifted, shifted_all, gone, placed}
 
 -- words placed in a slice, as its front
 pub placed-over : (at : ℕ) (new out : List ℕ) → at ≤ length out → placed at new out ≡ over (take at out ++ new) out
@@ -59,47 +58,25 @@ placed-length at new out h =
       length-take-le at out (omega arith),
     )
 
--- a part past the end, one that the end cuts, and a whole one
-pub part_past : (at n : ℕ) (w : List ℕ) → length w < at → [] ≡ body at n w
-part_past at n w h = rw (drop_of_length-le w {i = at} (omega arith), take-nil {A = ℕ} n)
-
-pub part_short : (at n : ℕ) (w : List ℕ) → length w - at < n → take (length w - at) (drop at w) ≡ body at n w
-part_short at n w h =
-    take_all (length w - at) (drop at w) (omega (arith, length-drop at w)) ∙ sym (take_all n (drop at w) (omega (arith, length-drop at w)))
-
-pub part_whole : (at n : ℕ) (w : List ℕ) → take ((at + n) - at) (drop at w) ≡ body at n w
-part_whole at n w = let q : (at + n) - at ≡ n = omega arith in rw q
-
 -- raising keeps the count
 pub length-gone : (by : ℕ) (l : List ℕ) → length (gone by l) ≡ length l
 unfolding gone
 length-gone zero l = refl
 length-gone (suc n) l = length-map l (shifted (suc n))
 
--- with no place for it, nothing is written
-pub no_place : (at by : ℕ) (first second out : List ℕ) → length out < at + (length first + length second) → out ≡ placed_in at (first ++ gone by second) out
-unfolding placed_in
-no_place at by first second out h =
-    rw (lt-leb (at + length (first ++ gone by second)) (length out) (omega (arith, length-append first (gone by second), length-gone by second)))
-
--- and with one it is
-pub in_place : (at : ℕ) (new out : List ℕ) → at + length new ≤ length out → placed at new out ≡ placed_in at new out
-unfolding placed_in
-in_place at new out h = rw (le-leb (at + length new) (length out) h)
-
 -- two copies that fill their parts, one behind the other
 pub put_twice : (at by s e : ℕ) (out first second p q : List ℕ) → s ≡ at + length first → e ≡ s + length second → e ≤ length out → ((i : ℕ) → get_or second i 0 < 2 ^ 64)
     → p ≡ copied (take (s - at) (drop at out)) first
     → q ≡ copied (take (e - s) (drop s (put_mid at (s - at) out p))) (shifted_all by second)
-    → put_mid s (e - s) (put_mid at (s - at) out p) q ≡ placed_in at (first ++ gone by second) out
+    → put_mid s (e - s) (put_mid at (s - at) out p) q ≡ placed at (first ++ gone by second) out
 put_twice at by s e out first second p q hs he h words hp hq =
     let one : put_mid at (s - at) out p ≡ placed at first out = put_copied at s out first p hs (omega arith) hp in
     let n : length (put_mid at (s - at) out p) ≡ length out = ap length one ∙ placed-length at first out (omega arith) in
     put_copied s e (put_mid at (s - at) out p) (shifted_all by second) q (omega (arith, length-map second (shifted by))) (omega arith) hq
     ∙ rw (one, hs)
     (placed_twice at first (shifted_all by second) out (omega arith)
-    ∙ rw (gone_is by second words) (in_place at (first ++ gone by second) out (omega (arith, length-append first (gone by second), length-gone by second))))
+    ∙ ap (λ (l : List ℕ). placed at (first ++ l) out) (gone_is by second words))
 
 -- a body in its place, by what its two parts and the slice before are
-pub next_body : (to by : ℕ) {w v p q x y out : List ℕ} → w ≡ out → p ≡ x → q ≡ y → v ≡ placed_in to (p ++ gone by q) w → v ≡ placed_in to (x ++ gone by y) out
-next_body to by e h k l = l ∙ rw (e, h, k)
+pub next_body : (to : ℕ) {n by : ℕ} {w v p q x y out : List ℕ} → n ≡ by → w ≡ out → p ≡ x → q ≡ y → v ≡ placed to (p ++ gone n q) w → v ≡ placed to (x ++ gone by y) out
+next_body to d e h k l = l ∙ rw (d, e, h, k)

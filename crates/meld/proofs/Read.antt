@@ -1,67 +1,40 @@
--- What the places of a chunk hold: each body of its words is that body of its entries.
-use Rattle.std.proofs.Common.{◌≡◌, ℕ, ◌+◌, List, ◌++◌, length, take, drop, sym, ap, ◌∙◌, append_assoc, arith, take-append-drop, drop-drop, take_at, drop_at}
-use Rattle.chunk.specs.declared.Contents.{Contents}
+-- What a well formed slice holds: each body of its words is that body of its entries.
+use Rattle.std.proofs.Common.{◌≡◌, ℕ, true, List, length, sym, ap, ◌∙◌}
 use Rattle.chunk.specs.Entry.{Entry}
-use Rattle.chunk.specs.Bodies.{chunk_of, keys, vals, times, diffs, val_ends, time_ends, diff_ends}
-use Rattle.chunk.specs.Words.{body, size, nk, nv, nt, nd, table_size}
-use Rattle.meld.specs.Seam.{Holds}
-use Rattle.meld.proofs.Counts.{val_ends_count, time_ends_count, diff_ends_count, times-count}
+use Rattle.chunk.specs.Bodies.{keys, vals, times, diffs, val_ends, time_ends, diff_ends}
+use Rattle.chunk.specs.Words.{well_formed, entries, nk, nv, nt, nd, key_body, val_end_body, val_body, time_end_body, time_body, diff_end_body, diff_body}
+use Rattle.chunk.specs.Contents.{contents_in}
+use Rattle.chunk.proofs.Placed.{length_keys, length_vals, length_diffs}
+use Rattle.laws.proofs.OneChunk.{front_is_chunk}
+use Rattle.laws.proofs.Bodies.{its_place, keys_in_lem, val_ends_in_lem, vals_in_lem, time_ends_in_lem, times_in_lem, diff_ends_in_lem, diffs_in_lem}
 
--- the counts and the bodies that the contents name
-pub record Bodied (c : Contents) (w : List ℕ) (es : List Entry) : Type 0 where
-  pub key_count : c.nk ≡ length (keys es)
-  pub val_count : c.nv ≡ length (vals es)
-  pub time_count : c.nt ≡ length es
-  pub diff_count : c.nd ≡ length (diffs es)
-  pub keys_in : body c.keys_at c.nk w ≡ keys es
-  pub val_ends_in : body c.val_ends_at c.nk w ≡ val_ends es
-  pub vals_in : body c.vals_at c.nv w ≡ vals es
-  pub time_ends_in : body c.time_ends_at c.nv w ≡ time_ends es
-  pub times_in : body c.times_at c.nt w ≡ times es
-  pub diff_ends_in : body c.diff_ends_at c.nt w ≡ diff_ends es
-  pub diffs_in : body c.diffs_at c.nd w ≡ diffs es
+-- the counts and the bodies of its words
+pub record Bodied (w : List ℕ) (es : List Entry) : Type 0 where
+  pub key_count : nk w ≡ length (keys es)
+  pub val_count : nv w ≡ length (vals es)
+  pub time_count : nt w ≡ length es
+  pub diff_count : nd w ≡ length (diffs es)
+  pub keys_in : key_body w ≡ keys es
+  pub val_ends_in : val_end_body w ≡ val_ends es
+  pub vals_in : val_body w ≡ vals es
+  pub time_ends_in : time_end_body w ≡ time_ends es
+  pub times_in : time_body w ≡ times es
+  pub diff_ends_in : diff_end_body w ≡ diff_ends es
+  pub diffs_in : diff_body w ≡ diffs es
 
--- one body, and what stands past it
-step : (at n to : ℕ) (x q r w : List ℕ) → drop at w ≡ (x ++ q) ++ r → n ≡ length x → to ≡ at + n → (body at n w ≡ x) × (drop to w ≡ q ++ r)
-step at n to x q r w h k t =
-    let e : drop at w ≡ x ++ (q ++ r) = h ∙ append_assoc x q r in
-    (rw e (take_at x (q ++ r) n (sym k)), rw (t, ← drop-drop n at w, e) (drop_at x (q ++ r) n (sym k)))
-
-fronted : (w : List ℕ) (es : List Entry) → take (size w) w ≡ chunk_of es → w ≡ chunk_of es ++ drop (size w) w
-fronted w es h = sym (take-append-drop (size w) w) ∙ ap (λ (l : List ℕ). l ++ drop (size w) w) h
-
--- a word of the table
-worded : (w : List ℕ) (es : List Entry) (r : List ℕ) → w ≡ chunk_of es ++ r → (nk w ≡ length (keys es)) × (nv w ≡ length (vals es)) × (nt w ≡ length (times es)) × (nd w ≡ length (diffs es))
-unfolding chunk_of
-worded w es r h = (ap nk h, ap nv h, ap nt h, ap nd h)
-
-past : (w : List ℕ) (es : List Entry) (r : List ℕ) → w ≡ chunk_of es ++ r
-    → drop table_size w ≡ (keys es ++ (val_ends es ++ (vals es ++ (time_ends es ++ (times es ++ (diff_ends es ++ diffs es)))))) ++ r
-unfolding chunk_of
-past w es r h = ap (λ (l : List ℕ). drop table_size l) h
-
-pub bodied : (c : Contents) (w : List ℕ) (es : List Entry) → Holds c w es → Bodied c w es
-bodied c w es h =
-    let p = h.placed in
-    let r = drop (size w) w in
-    let f = fronted w es h.front in
-    let n = worded w es r f in
-    let s1 = step c.keys_at c.nk c.val_ends_at (keys es) _ r w (ap (λ (k : ℕ). drop k w) p.keys_placed ∙ past w es r f) (p.key_count ∙ n.0) (omega arith) in
-    let s2 = step c.val_ends_at c.nk c.vals_at (val_ends es) _ r w s1.1 (p.key_count ∙ n.0 ∙ sym (val_ends_count es)) (omega arith) in
-    let s3 = step c.vals_at c.nv c.time_ends_at (vals es) _ r w s2.1 (p.val_count ∙ n.1) (omega arith) in
-    let s4 = step c.time_ends_at c.nv c.times_at (time_ends es) _ r w s3.1 (p.val_count ∙ n.1 ∙ sym (time_ends_count es)) (omega arith) in
-    let s5 = step c.times_at c.nt c.diff_ends_at (times es) _ r w s4.1 (p.time_count ∙ n.2) (omega arith) in
-    let s6 = step c.diff_ends_at c.nt c.diffs_at (diff_ends es) (diffs es) r w s5.1 (p.time_count ∙ n.2 ∙ sym (diff_ends_count es)) (omega arith) in
+pub bodied : (w : List ℕ) → well_formed w ≡ true → Bodied w (entries w)
+bodied w h =
+    let p = its_place w h in
     record {
-      key_count = p.key_count ∙ n.0;
-      val_count = p.val_count ∙ n.1;
-      time_count = p.time_count ∙ n.2 ∙ times-count es;
-      diff_count = p.diff_count ∙ n.3;
-      keys_in = s1.0;
-      val_ends_in = s2.0;
-      vals_in = s3.0;
-      time_ends_in = s4.0;
-      times_in = s5.0;
-      diff_ends_in = s6.0;
-      diffs_in = rw s6.1 (take_at (diffs es) r c.nd (sym (p.diff_count ∙ n.3)));
+      key_count = sym (length_keys (contents_in w) w p) ∙ ap length (sym (keys_in_lem w h));
+      val_count = sym (length_vals (contents_in w) w p) ∙ ap length (sym (vals_in_lem w h));
+      time_count = sym (front_is_chunk w h).counted;
+      diff_count = sym (length_diffs (contents_in w) w p) ∙ ap length (sym (diffs_in_lem w h));
+      keys_in = sym (keys_in_lem w h);
+      val_ends_in = sym (val_ends_in_lem w h);
+      vals_in = sym (vals_in_lem w h);
+      time_ends_in = sym (time_ends_in_lem w h);
+      times_in = sym (times_in_lem w h);
+      diff_ends_in = sym (diff_ends_in_lem w h);
+      diffs_in = sym (diffs_in_lem w h);
     }

@@ -1,13 +1,8 @@
--- An accepted meld (document 01, "Meld", "Refusal numbers"): one chunk's own refusal, and what the output says.
-use Rattle.std.specs.Prelude.{◌≡◌, ℕ, ◌+◌, ◌<◌, ◌≤◌, true, cond, List, ◌++◌, take, ◌==◌}
-use Rattle.chunk.specs.declared.Checked.{Checked}
+-- An accepted meld (document 01, "Meld"): what the output says.
+use Rattle.std.specs.Prelude.{◌≡◌, ℕ, ◌+◌, ◌<◌, ◌≤◌, true, List, ◌++◌, take}
 use Rattle.chunk.specs.Words.{well_formed, entries, settled, size, nt, limit, over}
 use Rattle.laws.specs.OneChunk.{Says}
 use Rattle.meld.specs.Meld.{meld_number, meld_out}
-
--- the number of a chunk by its check: 5 where it isn't well formed, 6 where it isn't settled, else 0
-abbrev pub refusal_of : Checked → ℕ
-refusal_of found = cond (found.number == 0) (cond found.settled 0 6) found.number
 
 -- the output of an accepted meld: a settled chunk that says what the first says and then what the second says
 pub record Accepted (a b out : List ℕ) : Type 0 where

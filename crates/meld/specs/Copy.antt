@@ -1,6 +1,6 @@
 -- A body is copied into its own part of the output (document 01, "each layer is written into its own part of the output"); the ends of
 -- the second of two layers go up by the items of the first (document 01: "an end is the count of child items up to and including that list").
-use Rattle.std.specs.Prelude.{ℕ, zero, suc, ◌+◌, ◌%◌, ◌^◌, cond, List, [], ◌∷◌, ◌++◌, map, length, take, drop, nat_le}
+use Rattle.std.specs.Prelude.{ℕ, zero, suc, ◌+◌, ◌%◌, ◌^◌, List, [], ◌∷◌, ◌++◌, map, length, take, drop}
 
 -- a slice with another at its front: as much of it as there is room for, and past it what was there
 unfoldable pub copied : List ℕ → List ℕ → List ℕ
@@ -27,8 +27,3 @@ counted_on x (suc n) = x % 2 ^ 64 ∷ counted_on (suc x) n
 -- a slice with new words from `at` on, the others as they were
 unfoldable pub placed : ℕ → List ℕ → List ℕ → List ℕ
 placed at new out = take at out ++ (new ++ drop (at + length new) out)
-
--- the same, where the slice has that place
-unfoldable pub placed_in : ℕ → List ℕ → List ℕ → List ℕ
-unfolding placed
-placed_in at new out = cond (nat_le (at + length new) (length out)) (placed at new out) out

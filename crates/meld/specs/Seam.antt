@@ -1,10 +1,8 @@
 -- Where two chunks meet (document 01, "Meld": b's first position strictly past a's last): the key, or the key and the value, may be the same.
-use Rattle.std.specs.Prelude.{◌≡◌, ℕ, ◌-◌, Bool, cond, List, [], ◌∷◌, length, take}
-use Rattle.chunk.specs.declared.Contents.{Contents}
+use Rattle.std.specs.Prelude.{ℕ, ◌-◌, Bool, true, false, cond, Option, Some, None, List, [], ◌∷◌, length, take}
 use Rattle.chunk.specs.Entry.{Entry, before, same_list}
-use Rattle.chunk.specs.Bodies.{chunk_of, same_key, keys, vals, times}
-use Rattle.chunk.specs.Words.{size, head_or_0, entries}
-use Rattle.chunk.specs.Contents.{Placed}
+use Rattle.chunk.specs.Bodies.{same_key, keys, vals, times}
+use Rattle.chunk.specs.Words.{head_or_0}
 use Rattle.meld.specs.declared.Position.{Position}
 use Rattle.meld.specs.declared.Seam.{Seam}
 use Rattle.meld.specs.Meld.{follows}
@@ -24,16 +22,6 @@ shared same (a ∷ c ∷ es) fs = shared same (c ∷ es) fs
 -- without its last `n`
 abbrev pub cut {ℓ} : {A : Type ℓ} → ℕ → List A → List A
 cut n l = take (length l - n) l
-
--- a slice with these contents whose front is the chunk of these entries
-pub record Holds (c : Contents) (w : List ℕ) (es : List Entry) : Type 0 where
-  pub placed : Placed c w
-  pub front : take (size w) w ≡ chunk_of es
-
--- two slices with these contents, each of which holds the chunk of what it says
-pub record Both (front back : Contents) (a b : List ℕ) : Type 0 where
-  pub first : Holds front a (entries a)
-  pub second : Holds back b (entries b)
 
 -- the last of some words, 0 where there is none
 unfoldable pub last_or_0 : List ℕ → ℕ
@@ -55,11 +43,16 @@ first_position es = record { key = head_or_0 (keys es); val = head_or_0 (vals es
 abbrev pub as_entry : Position → Entry
 as_entry p = record { key = p.key; val = p.val; time = p.time; diff = 0 }
 
--- how two entries meet: whether the second is past the first, and the keys and values that they share
-abbrev pub seam_at : Entry → Entry → Seam
-seam_at e f = record { follows = before e f; keys = cond (same_key e f) 1 0; vals = cond (same_list e f) 1 0 }
+-- a seam where the second starts past the first's end, else none
+abbrev pub where_past : Bool → Seam → Option Seam
+where_past true s = Some s
+where_past false s = None
+
+-- how two entries meet: the keys and values that they share, where the second is past the first
+abbrev pub seam_at : Entry → Entry → Option Seam
+seam_at e f = where_past (before e f) (record { keys = cond (same_key e f) 1 0; vals = cond (same_list e f) 1 0 })
 
 -- how two parts meet
-unfoldable pub seam_of : List Entry → List Entry → Seam
+unfoldable pub seam_of : List Entry → List Entry → Option Seam
 unfolding follows shared
-seam_of es fs = record { follows = follows es fs; keys = shared same_key es fs; vals = shared same_list es fs }
+seam_of es fs = where_past (follows es fs) (record { keys = shared same_key es fs; vals = shared same_list es fs })

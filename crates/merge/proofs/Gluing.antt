@@ -14,7 +14,7 @@ use Rattle.reports.specs.Merge.{merged, survivor}
 use Rattle.reports.specs.Scratch.{report_at, reports_at, Layer, Covers}
 use Rattle.reports.specs.Write.{widths, entries_by}
 use Rattle.merge.specs.declared.Surveys.{Surveys}
-use Rattle.reports.specs.Layers.{key_survey, val_survey, time_survey, LayersRoom}
+use Rattle.reports.specs.Layers.{key_survey, val_survey, time_survey}
 use Rattle.merge.specs.Surveyed.{LayersSurveyed}
 use Rattle.merge.specs.Weft.{key_reports, val_reports, time_reports, Weft, named}
 use Rattle.reports.specs.Whole.{Whole}
@@ -340,32 +340,18 @@ module _ (w0 : List ℕ) (c0 : Contents) (w1 : List ℕ) (c1 : Contents) (s : Li
       ap (entries_by es fs) time_left ∙ merged_by es fs (time_survey es fs) times-woven k0.rise k1.rise some_first some-second
 
   -- and the reports after it are the runs that the times end with
-  trail : reports_at s (r.vals + 3 * (trimmed_spans s r).times) ((r.times - (r.vals + 3 * (trimmed_spans s r).times)) / 3) ≡ trailing (time_survey es fs)
-  trail =
-      reports_trail s r.vals ((r.times - r.vals) / 3) ((r.times - (r.vals + 3 * (trimmed_spans s r).times)) / 3)
-      (omega (arith, left_count s r.vals ((r.times - r.vals) / 3), y.past_times))
-      ∙ ap trailing y.times_surveyed
-
-  pub surveyed_trailing : Trailing w0 c0 w1 c1 s (r.vals + 3 * (trimmed_spans s r).times) r.times
+  pub surveyed_trailing : Trailing w0 c0 w1 c1 (trailing (time_survey es fs))
   surveyed_trailing =
       record {
         first = y.first.chunk;
         second = y.second.chunk;
-        stand = y.stand;
-        whole = omega (arith, left_count s r.vals ((r.times - r.vals) / 3), y.past_times);
-        starts = rw trail (trailing-starts es fs (trailing (time_survey es fs)) (stopped es fs 0 0 (time_survey es fs) times-woven) (trailing_ends (time_survey es fs)));
+        starts = trailing-starts es fs (trailing (time_survey es fs)) (stopped es fs 0 0 (time_survey es fs) times-woven) (trailing_ends (time_survey es fs));
       }
 
-  pub surveyed_survivor : survivor_by es fs (reports_at s (r.vals + 3 * (trimmed_spans s r).times) ((r.times - (r.vals + 3 * (trimmed_spans s r).times)) / 3))
-      ≡ survivor es fs
-  surveyed_survivor =
-      ap (survivor_by es fs) trail ∙ sym (survivor_by_lem es fs (time_survey es fs) times-woven k0.rise k1.rise some_first some-second)
+  pub surveyed_survivor : survivor_by es fs (trailing (time_survey es fs)) ≡ survivor es fs
+  surveyed_survivor = sym (survivor_by_lem es fs (time_survey es fs) times-woven k0.rise k1.rise some_first some-second)
 
 -- ---- the scratch after the surveys
-
-pub mergeable_room : (w0 : List ℕ) (c0 : Contents) (w1 : List ℕ) (c1 : Contents) (s : List ℕ) (room : ℕ)
-    → Mergeable w0 c0 w1 c1 (length s) room → LayersRoom w0 c0 w1 c1 s
-mergeable_room w0 c0 w1 c1 s room y = record { first = y.first.chunk; second = y.second.chunk; room = y.wide }
 
 module _ (w0 : List ℕ) (c0 : Contents) (w1 : List ℕ) (c1 : Contents) (s s' : List ℕ) (room : ℕ) (r : Surveys)
     (y : Mergeable w0 c0 w1 c1 (length s) room) (g : LayersSurveyed (entries w0) (entries w1) s s' r) where

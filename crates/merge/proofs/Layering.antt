@@ -1,12 +1,10 @@
 -- The surveys of three layers fit the scratch that is asked for, and each is read as it was written.
-use Rattle.std.proofs.Common.{◌≡◌, ℕ, suc, ◌+◌, ◌-◌, ◌*◌, ◌/◌, ◌≤◌, List, [], ◌∷◌, ◌++◌, length, sym, refl, ap, ◌∙◌, arith}
+use Rattle.std.proofs.Common.{◌≡◌, ℕ, suc, ◌+◌, ◌-◌, ◌*◌, ◌/◌, ◌≤◌, List, [], ◌∷◌, ◌++◌, length, sym, ap, ◌∙◌, arith}
 use lib.Seq.{take-length}
 use Rattle.chunk.specs.Entry.{Entry}
 use Rattle.chunk.specs.Words.{entries, rises}
 use Rattle.chunk.specs.Bodies.{keys, vals, times, val_ends, time_ends}
 use Rattle.chunk.specs.declared.Contents.{Contents}
-use Rattle.chunk.specs.Contents.{contents_of, Placed}
-use Rattle.chunk.proofs.Placed as its
 use Rattle.chunk.proofs.WellFormed.{Parts, parts}
 use Rattle.laws.proofs.Layers.{Seven, of_entries}
 use Rattle.laws.proofs.Frame.{in_words}
@@ -63,11 +61,6 @@ shape w c d =
     all_of : (l : List ℕ) (n : ℕ) → length l ≡ n → between 0 n l ≡ l
     all_of l n e = let z : n - 0 ≡ length l = omega arith in rw z (take-length l)
 
--- contents that were read are those of the words
-pub its_places : (w : List ℕ) (c : Contents) → Read w c → Placed c w
-unfolding contents_of
-its_places w c d = let t = (parts w d.formed).table_fits in rw d.contents (rw t at (its.placed w t))
-
 module _ (w0 : List ℕ) (c0 : Contents) (w1 : List ℕ) (c1 : Contents) (s : List ℕ) (y : LayersRoom w0 c0 w1 c1 s) where
   abbrev es : List Entry
   es = entries w0
@@ -81,22 +74,23 @@ module _ (w0 : List ℕ) (c0 : Contents) (w1 : List ℕ) (c1 : Contents) (s : Li
   h1 : Shape w1 c1
   h1 = shape w1 c1 y.second
 
-  pub keys-room : (x0 x1 : List ℕ) → x0 ≡ keys es → x1 ≡ keys fs → PairRoom x0 0 c0.nk x1 0 c1.nk s 0
-  keys-room x0 x1 a b = rw (a, b) (record { rise0 = h0.keys-rise; rise1 = h1.keys-rise; room = omega (arith, y.room) })
+  pub keys-room : (x0 x1 : List ℕ) → x0 ≡ keys es → x1 ≡ keys fs → PairRoom x0 0 (length x0) x1 0 (length x1) s 0
+  keys-room x0 x1 a b =
+      rw (a, b)
+      (record {
+        rise0 = rw h0.key-count h0.keys-rise;
+        rise1 = rw h1.key-count h1.keys-rise;
+        room = omega (arith, y.room, h0.key-count, h1.key-count);
+      })
 
   pub record KeysDone (s1 : List ℕ) (a : ℕ) : Type 0 where
     pub place : a ≡ 3 * length (key_survey es fs)
     pub holds : s1 ≡ placed 0 (report_words (key_survey es fs)) s
 
-  its_keys : (x0 x1 : List ℕ) → x0 ≡ keys es → x1 ≡ keys fs → pair_of x0 0 c0.nk x1 0 c1.nk ≡ key_survey es fs
+  pub keys_done : (x0 x1 s1 : List ℕ) (a : ℕ) → x0 ≡ keys es → x1 ≡ keys fs → a ≡ 0 + 3 * length (pair_of x0 0 (length x0) x1 0 (length x1))
+      → s1 ≡ placed 0 (report_words (pair_of x0 0 (length x0) x1 0 (length x1))) s → KeysDone s1 a
   unfolding key_survey
-  its_keys x0 x1 a b = rw (a, b, ← h0.key-count, ← h1.key-count) refl
-
-  pub keys_done : (x0 x1 s1 : List ℕ) (a : ℕ) → x0 ≡ keys es → x1 ≡ keys fs → a ≡ 0 + 3 * length (pair_of x0 0 c0.nk x1 0 c1.nk)
-      → s1 ≡ placed 0 (report_words (pair_of x0 0 c0.nk x1 0 c1.nk)) s → KeysDone s1 a
-  keys_done x0 x1 s1 a e f p q =
-      let k : pair_of x0 0 c0.nk x1 0 c1.nk ≡ key_survey es fs = its_keys x0 x1 e f in
-      record { place = p ∙ (rw k (omega arith)); holds = q ∙ ap (λ (l : List Report). placed 0 (report_words l) s) k }
+  keys_done x0 x1 s1 a e f p q = record { place = omega (arith, rw (e, f) at p); holds = rw (e, f) at q }
 
   key_covers : Covers (length (val_ends es)) (length (val_ends fs)) 0 0 (key_survey es fs)
   unfolding key_survey
@@ -153,9 +147,6 @@ module _ (w0 : List ℕ) (c0 : Contents) (w1 : List ℕ) (c1 : Contents) (s : Li
           ap (reports_at s2 a) n ∙ ap (λ (l : List ℕ). reports_at l a (length (val_survey es fs))) g.holds
           ∙ placed_read a (val_survey es fs) s1 (omega (arith, d.place, few-keys, y.room, long1))
 
-      pub vals_past : a ≤ b
-      vals_past = omega (arith, g.place)
-
       time_covers : Covers (length (time_ends es)) (length (time_ends fs)) 0 0 (val_survey es fs)
       time_covers = rw (h0.time_end_count ∙ sym h0.val-count, h1.time_end_count ∙ sym h1.val-count) val_covers
 
@@ -184,23 +175,3 @@ module _ (w0 : List ℕ) (c0 : Contents) (w1 : List ℕ) (c1 : Contents) (s : Li
             past_times = rw (p, q, r, t, read_vals) at u;
             holds = placed-more 0 (key_survey es fs ++ val_survey es fs) (time_survey es fs) s s2 s3 b both at (omega (arith, d.place, g.place, few-keys, few-vals, y.room)) (rw (p, q, r, t, read_vals) at v);
           }
-
-      few-times : length (time_survey es fs) ≤ c0.nt + c1.nt
-      unfolding time_survey
-      few-times =
-          omega (
-            arith,
-            covers_count (length (times es)) (length (times fs)) 0 0 (time_survey es fs) (omega arith) (omega arith)
-                (survey_covers (time_ends es) (times es) (time_ends fs) (times fs) h0.time_layer h1.time_layer 0 0 (val_survey es fs) (omega arith) (omega arith) time_covers),
-            h0.time-count,
-            h1.time-count,
-          )
-
-      -- the surveys fit: scratch is as long as it was
-      pub times-length : (e0 x0 e1 x1 s3 : List ℕ) (k : ℕ) → e0 ≡ time_ends es → x0 ≡ times es → e1 ≡ time_ends fs → x1 ≡ times fs
-          → k ≡ b + 3 * length (surveyed e0 x0 e1 x1 (reports_at s2 a ((b - a) / 3))) → s3 ≡ placed b (report_words (surveyed e0 x0 e1 x1 (reports_at s2 a ((b - a) / 3)))) s2
-          → length s3 ≡ length s
-      unfolding time_survey
-      times-length e0 x0 e1 x1 s3 k p q r t u v =
-          let w : s3 ≡ placed b (report_words (time_survey es fs)) s2 = rw (p, q, r, t, read_vals) at v in
-          ap length w ∙ length-placed b s2 (report_words (time_survey es fs)) (omega (arith, length_words (time_survey es fs), few-times, few-keys, few-vals, d.place, g.place, y.room, long2)) ∙ long2

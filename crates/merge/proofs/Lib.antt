@@ -10,6 +10,10 @@ pub mod Trails
 pub mod Gluing
 pub mod Passing
 pub mod Settling
-pub mod Answers
 pub mod Trimmed
 pub mod Clauses
+pub mod Rows
+pub mod Saying
+pub mod Fronts
+pub mod Naming
+pub mod Lent

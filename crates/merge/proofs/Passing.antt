@@ -1,29 +1,28 @@
 -- The numbers of a merge, by its tests in their order, and what the call leaves with each.
-use Rattle.std.proofs.Common.{◌≡◌, ℕ, zero, suc, ◌+◌, ◌-◌, ◌*◌, ◌<◌, ◌≤◌, Bool, true, false, cond, not, eqb, ltb, List, [], ◌∷◌, length, sym, refl, ap, ◌∙◌, subst, arith, ltb-false}
+use Rattle.std.proofs.Common.{◌≡◌, ℕ, zero, suc, ◌+◌, ◌-◌, ◌*◌, ◌<◌, ◌≤◌, Bool, true, false, cond, ltb, List, [], ◌∷◌, length, sym, refl, ap, ◌∙◌, subst, arith, ltb-false, ne_eqb, Err}
 use lib.ListN.{length-map}
-use borrow.Author.Tests.{eqb-false}
-use Rattle.laws.proofs.Tests.{by_test, true-not-false}
+use Rattle.laws.proofs.Tests.{by_test}
 use Rattle.chunk.specs.Entry.{Entry, same_list}
 use Rattle.chunk.specs.Bodies.{chunk_of, lasts_of, same_key}
 use Rattle.chunk.specs.Words.{entries, well_formed, settled, size, nt, limit, over}
 use Rattle.chunk.specs.Refusal.{Test, first, refuse, malformed, unsettled, empty, written}
-use Rattle.chunk.specs.Contents.{contents_of}
-use Rattle.chunk.specs.Check.{checked_of}
-use Rattle.chunk.specs.declared.Checked.{Checked}
+use Rattle.chunk.specs.Answer.{number_of}
+use Rattle.chunk.specs.Contents.{Placed}
+use Rattle.chunk.specs.declared.Refusal.{Refusal}
+use Rattle.chunk.proofs.Refusals.{number_above, refused_by}
 use Rattle.chunk.specs.declared.Contents.{Contents}
-use Rattle.chunk.proofs.WellFormed.{parts}
-use Rattle.merge.specs.declared.Joined.{Joined}
+use Rattle.merge.specs.declared.Survivor.TheVariants.{Nobody}
 use Rattle.reports.specs.Merge.{merged, Survives, nobody, survivor, overflows, scratch_room, merge_number, merge_out}
-use Rattle.reports.specs.Read.{Read}
-use Rattle.merge.specs.Outcome.{answer_by, merge_answer, MergeAnswers}
-use Rattle.reports.specs.Refusals.{Refused, input_of, room_of, SmallEach}
+use Rattle.merge.specs.Outcome.{Joined, joined_of, answer_by, merge_answer, MergeAnswers}
+use Rattle.reports.specs.Refusals.{Refused, room_of, SmallEach}
 use Rattle.reports.specs.Whole.{Whole}
 use Rattle.reports.specs.Mergeable.{Mergeable}
 use Rattle.merge.specs.Surveyed.{SettledMerge}
 use Rattle.reports.proofs.Moving.{reading}
-use Rattle.reports.proofs.Refusing.{passed_check}
+use Rattle.reports.proofs.Refusing.{written_none}
 use Rattle.reports.proofs.Bodies.{fewer}
 use Rattle.merge.proofs.Gluing.{Counted, counts}
+use Rattle.merge.proofs.Lent.{whole_by}
 
 -- ---- the tests by their numbers
 
@@ -32,21 +31,13 @@ abbrev or_else : ℕ → ℕ → ℕ
 or_else zero m = m
 or_else (suc n) m = suc n
 
--- 5, 6 or 7, or 0
-abbrev input_by : Bool → Bool → Bool → ℕ
-input_by formed settles none = cond formed (cond settles (cond none 7 0) 6) 5
+or_else_above : (n m : ℕ) → 0 < n → or_else n m ≡ n
+or_else_above zero m h = absurd (omega arith)
+or_else_above (suc n) m h = refl
 
 -- 2, 12 or 13, or 0
 abbrev room_by : Bool → Bool → Bool → ℕ
 room_by many little short = cond many 2 (cond little 12 (cond short 13 0))
-
-input_first : (f s e : Bool) (rest : List Test)
-    → first (refuse 5 (not f) ∷ refuse 6 (not s) ∷ refuse 7 e ∷ rest) ≡ or_else (input_by f s e) (first rest)
-unfolding first
-input_first true true true rest = refl
-input_first true true false rest = refl
-input_first true false e rest = refl
-input_first false s e rest = refl
 
 room-first : (x y z v : Bool) → first (refuse 2 x ∷ refuse 12 y ∷ refuse 13 z ∷ refuse 14 v ∷ []) ≡ or_else (room_by x y z) (cond v 14 0)
 unfolding first
@@ -61,27 +52,23 @@ record None (x y z : Bool) : Type 0 where
   two : y ≡ false
   three : z ≡ false
 
-input_none : (f s e : Bool) → input_by f s e ≡ 0 → None (not f) (not s) e
-input_none true true true h = absurd (omega arith)
-input_none true true false h = record { one = refl; two = refl; three = refl }
-input_none true false e h = absurd (omega arith)
-input_none false s e h = absurd (omega arith)
-
 room-none : (x y z : Bool) → room_by x y z ≡ 0 → None x y z
 room-none true y z h = absurd (omega arith)
 room-none false true z h = absurd (omega arith)
 room-none false false true h = absurd (omega arith)
 room-none false false false h = record { one = refl; two = refl; three = refl }
 
-not-true : (b : Bool) → not b ≡ false → b ≡ true
-not-true true h = refl
-not-true false h = absurd (true-not-false h)
+-- the tests of a chunk that is taken are passed
+passed : (w : List ℕ) (rest : List Test) → well_formed w ≡ true → settled w ≡ true → 0 < nt w → first (malformed w ∷ unsettled w ∷ empty w ∷ rest) ≡ first rest
+unfolding first
+passed w rest f s n = rw (f, s, ne_eqb (nt w) 0 (λ e. absurd (omega arith))) refl
 
 -- ---- what a number leaves
 
-written_none : (n : ℕ) (es : List Entry) (out : List ℕ) → written (suc n) es out ≡ out
-unfolding written
-written_none n es out = refl
+-- nobody survives a refusal
+refused_as : (n : ℕ) (v : Survives) → 0 < n → record { number = n; survivor = Nobody } ≡ answer_by n v
+refused_as zero v h = absurd (omega arith)
+refused_as (suc n) v h = refl
 
 -- 14 or 0, by whether a sum overflows
 written_as : (b : Bool) (es : List Entry) (out : List ℕ) → cond b out (over (chunk_of es) out) ≡ written (cond b 14 0) es out
@@ -99,32 +86,15 @@ none_refused false q = q.not_accepted refl
 
 -- ---- one chunk
 
-input_is : (w : List ℕ) → input_of (checked_of w) ≡ input_by (well_formed w) (settled w) (eqb (nt w) 0)
-unfolding input_of checked_of contents_of
-input_is w = by_test (well_formed w) (λ h. rw (h, (parts w h).table_fits)) (λ h. rw h)
-
-formed-none : (w : List ℕ) → well_formed w ≡ true → (checked_of w).number ≡ 0
-unfolding checked_of
-formed-none w f = rw f
-
 -- a chunk that is taken
-record Taken (w : List ℕ) (r : Checked) : Type 0 where
-  formed : well_formed w ≡ true
-  whole : Whole w r.contents
-  some : 0 < r.contents.nt
+pub record Taken (w : List ℕ) (c : Contents) : Type 0 where
+  whole : Whole w c
+  some : 0 < c.nt
+  there : 0 < nt w
 
-taken : (w : List ℕ) (r : Checked) → r ≡ checked_of w → input_of r ≡ 0 → Taken w r
-taken w r e h =
-    let n : None (not (well_formed w)) (not (settled w)) (eqb (nt w) 0) =
-    input_none (well_formed w) (settled w) (eqb (nt w) 0) (sym (input_is w) ∙ sym (ap input_of e) ∙ h) in
-    let f : well_formed w ≡ true = not-true (well_formed w) n.one in
-    let s : settled w ≡ true = not-true (settled w) n.two in
-    let c : Read w r.contents = (passed_check w r e (ap (λ (x : Checked). x.number) e ∙ formed-none w f)).read in
-    record {
-      formed = f;
-      whole = record { chunk = c; settles = s };
-      some = omega (arith, eqb-false (nt w) 0 n.three, (reading w r.contents c).its_times);
-    }
+-- words that are lent as one, by what the tests say of them
+pub taken : (v w : List ℕ) (c : Contents) → Placed c v → v ≡ w → well_formed w ≡ true → settled w ≡ true → 0 < nt w → Taken w c
+taken v w c p e f s n = record { whole = whole_by v w c p e f s; some = omega (arith, p.time_count, ap nt e); there = n }
 
 lasts_fewer : (sm : Entry → Entry → Bool) (es : List Entry) → length (lasts_of sm es) ≤ length es
 unfolding lasts_of
@@ -164,12 +134,6 @@ module _ (w0 w1 s out : List ℕ) where
   abbrev others : ℕ
   others = cond (overflows (entries w0) (entries w1)) 14 0
 
-  abbrev input0 : ℕ
-  input0 = input_by (well_formed w0) (settled w0) (eqb (nt w0) 0)
-
-  abbrev input1 : ℕ
-  input1 = input_by (well_formed w1) (settled w1) (eqb (nt w1) 0)
-
   abbrev rooms : ℕ
   rooms = room_by (ltb limit (nt w0 + nt w1)) (ltb (length s) (scratch_room w0 w1)) (ltb (length out) (size w0 + size w1 - 4))
 
@@ -182,20 +146,9 @@ module _ (w0 w1 s out : List ℕ) where
   abbrev second_tests : List Test
   second_tests = malformed w1 ∷ unsettled w1 ∷ empty w1 ∷ last_tests
 
-  number_is : merge_number w0 w1 s out ≡ or_else input0 (or_else input1 (or_else rooms others))
+  number_is : merge_number w0 w1 s out ≡ first (malformed w0 ∷ unsettled w0 ∷ empty w0 ∷ second_tests)
   unfolding merge_number
-  number_is =
-      input_first (well_formed w0) (settled w0) (eqb (nt w0) 0) second_tests
-      ∙ ap (or_else input0)
-      (input_first (well_formed w1) (settled w1) (eqb (nt w1) 0) last_tests
-      ∙ ap (or_else input1)
-      (room-first (ltb limit (nt w0 + nt w1)) (ltb (length s) (scratch_room w0 w1)) (ltb (length out) (size w0 + size w1 - 4)) (overflows (entries w0) (entries w1))))
-
-  room_is : (c0 c1 : Contents) → Read w0 c0 → Read w1 c1 → room_of c0 c1 (length s) (length out) ≡ rooms
-  unfolding room_of
-  room_is c0 c1 d0 d1 =
-      let e : size w0 + (size w1 - 4) ≡ size w0 + size w1 - 4 = omega arith in
-      rw (d0.contents, d1.contents) (ap (λ (n : ℕ). room_by (ltb limit (nt w0 + nt w1)) (ltb (length s) (scratch_room w0 w1)) (ltb (length out) n)) e)
+  number_is = refl
 
   -- ---- what the call leaves
 
@@ -207,44 +160,30 @@ module _ (w0 w1 s out : List ℕ) where
   unfolding merge_out
   out_is = refl
 
-  -- with a number nothing is left changed
-  refuses : (n : ℕ) → merge_number w0 w1 s out ≡ suc n → MergeAnswers w0 w1 s out (answer_by (suc n) nobody) out s
-  refuses n h =
+  -- with a refusal nothing is left changed
+  refuses : (r : Refusal) → number_of r ≡ merge_number w0 w1 s out → MergeAnswers w0 w1 s out (joined_of (Err r)) out s
+  refuses r h =
       record {
-        answers = sym (answer-is ∙ ap (λ (m : ℕ). answer_by m (survivor (entries w0) (entries w1))) h);
-        written = sym (out_is ∙ ap (λ (m : ℕ). written m (merged (entries w0) (entries w1)) out) h ∙ written_none n (merged (entries w0) (entries w1)) out);
+        answers = refused_as (number_of r) (survivor (entries w0) (entries w1)) (number_above r) ∙ ap (λ (m : ℕ). answer_by m (survivor (entries w0) (entries w1))) h ∙ sym answer-is;
+        written = sym (out_is ∙ written_none (merge_number w0 w1 s out) (merged (entries w0) (entries w1)) out (rw h at (number_above r)));
         untouched = λ q. refl;
       }
 
-  -- by a number that is not 0
-  pub refused_by_lem : (a : Joined) (n : ℕ) → a ≡ answer_by n nobody → (n ≡ 0 → ⊥) → ((m : ℕ) → n ≡ suc m → MergeAnswers w0 w1 s out (answer_by (suc m) nobody) out s)
-      → MergeAnswers w0 w1 s out a out s
-  refused_by_lem a zero e h f = absurd (h refl)
-  refused_by_lem a (suc n) e h f = rw e (f n refl)
+  pub first_refuses : (r : Refusal) → number_of r ≡ first (malformed w0 ∷ unsettled w0 ∷ empty w0 ∷ []) → MergeAnswers w0 w1 s out (joined_of (Err r)) out s
+  first_refuses r e = refuses r (refused_by r (malformed w0 ∷ unsettled w0 ∷ empty w0 ∷ []) second_tests e ∙ sym number_is)
 
-  pub first_refuses : (r0 : Checked) (n : ℕ) → r0 ≡ checked_of w0 → input_of r0 ≡ suc n → MergeAnswers w0 w1 s out (answer_by (suc n) nobody) out s
-  first_refuses r0 n e h =
-      refuses n (number_is ∙ ap (λ (m : ℕ). or_else m (or_else input1 (or_else rooms others))) (sym (input_is w0) ∙ sym (ap input_of e) ∙ h))
+  module _ (c0 : Contents) (t0 : Taken w0 c0) where
+    past_first : merge_number w0 w1 s out ≡ first second_tests
+    past_first = number_is ∙ passed w0 second_tests t0.whole.chunk.formed t0.whole.settles t0.there
 
-  module _ (r0 r1 : Checked) (e0 : r0 ≡ checked_of w0) (e1 : r1 ≡ checked_of w1) (h0 : input_of r0 ≡ 0) where
-    past_first : merge_number w0 w1 s out ≡ or_else input1 (or_else rooms others)
-    past_first =
-        number_is ∙ ap (λ (m : ℕ). or_else m (or_else input1 (or_else rooms others))) (sym (input_is w0) ∙ sym (ap input_of e0) ∙ h0)
+    pub second_refuses : (r : Refusal) → number_of r ≡ first (malformed w1 ∷ unsettled w1 ∷ empty w1 ∷ []) → MergeAnswers w0 w1 s out (joined_of (Err r)) out s
+    second_refuses r e = refuses r (refused_by r (malformed w1 ∷ unsettled w1 ∷ empty w1 ∷ []) last_tests e ∙ sym past_first)
 
-    pub second_refuses : (n : ℕ) → input_of r1 ≡ suc n → MergeAnswers w0 w1 s out (answer_by (suc n) nobody) out s
-    second_refuses n h = refuses n (past_first ∙ ap (λ (m : ℕ). or_else m (or_else rooms others)) (sym (input_is w1) ∙ sym (ap input_of e1) ∙ h))
-
-    module _ (h1 : input_of r1 ≡ 0) where
-      t0 : Taken w0 r0
-      t0 = taken w0 r0 e0 h0
-
-      t1 : Taken w1 r1
-      t1 = taken w1 r1 e1 h1
-
-      pub small_each : SmallEach r0.contents r1.contents
+    module _ (c1 : Contents) (t1 : Taken w1 c1) where
+      pub small_each : SmallEach c0 c1
       small_each =
-          let a : Small r0.contents = small w0 r0.contents t0.whole in
-          let b : Small r1.contents = small w1 r1.contents t1.whole in
+          let a : Small c0 = small w0 c0 t0.whole in
+          let b : Small c1 = small w1 c1 t1.whole in
           record {
             keys0 = a.few-keys;
             vals0 = a.few-vals;
@@ -257,24 +196,28 @@ module _ (w0 w1 s out : List ℕ) where
             table = b.table;
           }
 
-      its_room : room_of r0.contents r1.contents (length s) (length out) ≡ rooms
-      its_room = room_is r0.contents r1.contents t0.whole.chunk t1.whole.chunk
+      its_room : room_of c0 c1 (length s) (length out) ≡ rooms
+      unfolding room_of
+      its_room =
+          let e : size w0 + (size w1 - 4) ≡ size w0 + size w1 - 4 = omega arith in
+          rw (t0.whole.chunk.contents, t1.whole.chunk.contents) (ap (λ (n : ℕ). room_by (ltb limit (nt w0 + nt w1)) (ltb (length s) (scratch_room w0 w1)) (ltb (length out) n)) e)
 
       past_second : merge_number w0 w1 s out ≡ or_else rooms others
-      past_second = past_first ∙ ap (λ (m : ℕ). or_else m (or_else rooms others)) (sym (input_is w1) ∙ sym (ap input_of e1) ∙ h1)
+      past_second =
+          past_first ∙ passed w1 last_tests t1.whole.chunk.formed t1.whole.settles t1.there
+          ∙ room-first (ltb limit (nt w0 + nt w1)) (ltb (length s) (scratch_room w0 w1)) (ltb (length out) (size w0 + size w1 - 4)) (overflows (entries w0) (entries w1))
 
-      pub room_refuses : (n : ℕ) → room_of r0.contents r1.contents (length s) (length out) ≡ suc n
-          → MergeAnswers w0 w1 s out (answer_by (suc n) nobody) out s
-      room_refuses n h = refuses n (past_second ∙ ap (λ (m : ℕ). or_else m others) (sym its_room ∙ h))
+      pub room_refuses : (r : Refusal) → number_of r ≡ room_of c0 c1 (length s) (length out) → MergeAnswers w0 w1 s out (joined_of (Err r)) out s
+      room_refuses r h =
+          let q : number_of r ≡ rooms = h ∙ its_room in
+          refuses r (q ∙ sym (or_else_above rooms others (rw q at (number_above r))) ∙ sym past_second)
 
-      module _ (h2 : room_of r0.contents r1.contents (length s) (length out) ≡ 0) where
-        pub both_pass : Mergeable w0 r0.contents w1 r1.contents (length s) (length out)
+      module _ (h2 : 0 ≡ room_of c0 c1 (length s) (length out)) where
+        pub both_pass : Mergeable w0 c0 w1 c1 (length s) (length out)
         unfolding room_of
         both_pass =
-            let c0 : Contents = r0.contents in
-            let c1 : Contents = r1.contents in
             let n : None (ltb limit (c0.nt + c1.nt)) (ltb (length s) (3 * (c0.nk + c0.nv + c0.nt + (c1.nk + c1.nv + c1.nt))))
-            (ltb (length out) (c0.size + (c1.size - c1.keys_at))) = room-none _ _ _ h2 in
+            (ltb (length out) (c0.size + (c1.size - c1.keys_at))) = room-none _ _ _ (sym h2) in
             record {
               first = t0.whole;
               second = t1.whole;
@@ -286,7 +229,7 @@ module _ (w0 w1 s out : List ℕ) where
             }
 
         past_all : merge_number w0 w1 s out ≡ others
-        past_all = past_second ∙ ap (λ (m : ℕ). or_else m others) (sym its_room ∙ h2)
+        past_all = past_second ∙ ap (λ (m : ℕ). or_else m others) (sym its_room ∙ sym h2)
 
         -- 14, or the merge
         pub merge_done : (r : Joined) (out' s' : List ℕ) → SettledMerge (entries w0) (entries w1) out r out' → MergeAnswers w0 w1 s out r out' s'

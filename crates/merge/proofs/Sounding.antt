@@ -1,44 +1,41 @@
 -- Whether a cursor is sound: the list of a time, and of a value, is found among the ends.
-use Rattle.std.proofs.Common.{◌≡◌, ℕ, ◌+◌, ◌-◌, ◌<◌, ◌≤◌, true, false, ◌&&◌, eqb, ltb, List, length, sym, ap, ◌∙◌, arith, ltb-true, le-ltb, lt-ltb, eq-eqb, ne_eqb, eqb-true}
+use Rattle.std.proofs.Common.{◌≡◌, ℕ, ◌+◌, ◌<◌, ◌≤◌, Bool, true, false, ◌&&◌, refl, eqb, ltb, List, length, sym, ap, ◌∙◌, ltb-true, le-ltb, lt-ltb, eq-eqb, ne_eqb, eqb-true}
 use borrow.Author.Tests.{eqb-false}
 use Rattle.laws.proofs.Tests.{by_test, and_left, and_right}
 use Rattle.chunk.specs.Entry.{Entry}
 use Rattle.chunk.specs.Bodies.{val_ends, time_ends}
 use Rattle.merge.specs.declared.Cursor.{Cursor}
 use Rattle.reports.specs.Survey.{below}
-use Rattle.reports.specs.Gallop.{between, run_end}
 use Rattle.reports.specs.Merge.{Place, place_at, sound_at}
 use Rattle.merge.specs.Suffix.{place_of}
 use Rattle.reports.proofs.Cutting.{FromPlace, from_place}
 
-module _ (w : List ℕ) (from to target r : ℕ) (ends : List ℕ) (e : r ≡ run_end w from to target) where
-  pub found_from : from ≤ r
-  unfolding run_end
-  found_from = rw e (omega arith)
+same_both : (a b : ℕ) → eqb a b ≡ eqb b a
+same_both a b = by_test (eqb a b) (λ t. t ∙ sym (eq-eqb b a (sym (eqb-true a b t)))) (λ t. t ∙ sym (ne_eqb b a (λ q. eqb-false a b t (sym q))))
 
-  pub found_list : between from to w ≡ ends → r - from ≡ below target ends
-  unfolding run_end
-  found_list f = rw (e, f) (omega arith)
+turned : (x y : Bool) → (x && (y && true)) ≡ (y && x)
+turned true true = refl
+turned true false = refl
+turned false true = refl
+turned false false = refl
+
+placed_itself : (es : List Entry) (t : ℕ) → (place_at es t).t ≡ t
+unfolding place_at
+placed_itself es t = refl
 
 module _ (es : List Entry) (p : Place) where
   pub no_time : length es ≤ p.t → false ≡ sound_at es p
   unfolding sound_at
   no_time h = rw (le-ltb p.t (length es) h)
 
-  -- with the place of its time at hand, by that place's value and key
-  module _ (r : Cursor) (h : p.t < length es) (e : place_of r ≡ place_at es p.t) where
-    pub no_list : (r.v ≡ p.v → ⊥) → false ≡ sound_at es p
-    unfolding sound_at
-    no_list n = rw (lt-ltb p.t (length es) h, ne_eqb p.v (place_at es p.t).v (λ q. n (ap (λ (x : Place). x.v) e ∙ sym q)))
-
-    pub its_list : r.v ≡ p.v → eqb r.k p.k ≡ sound_at es p
-    unfolding sound_at
-    its_list q =
-        let v : p.v ≡ (place_at es p.t).v = sym q ∙ ap (λ (x : Place). x.v) e in
-        let k : r.k ≡ (place_at es p.t).k = ap (λ (x : Place). x.k) e in
-        by_test (eqb (place_at es p.t).k p.k)
-        (λ t. rw (lt-ltb p.t (length es) h, eq-eqb p.v (place_at es p.t).v v, k, t) (sym (eq-eqb p.k (place_at es p.t).k (sym (eqb-true _ _ t)))))
-        (λ t. rw (lt-ltb p.t (length es) h, eq-eqb p.v (place_at es p.t).v v, k, t) (sym (ne_eqb p.k (place_at es p.t).k (λ q. eqb-false _ _ t (sym q)))))
+  -- with the place of its time at hand, whether it is that place
+  pub its_place : (r : Cursor) → p.t < length es → place_of r ≡ place_at es p.t → (eqb r.k p.k && (eqb r.v p.v && eqb r.t p.t)) ≡ sound_at es p
+  unfolding sound_at
+  its_place r h e =
+      let v : eqb r.v p.v ≡ eqb p.v (place_at es p.t).v = same_both r.v p.v ∙ ap (λ (x : Place). eqb p.v x.v) e in
+      let k : eqb r.k p.k ≡ eqb p.k (place_at es p.t).k = same_both r.k p.k ∙ ap (λ (x : Place). eqb p.k x.k) e in
+      ap (λ (b : Bool). eqb r.k p.k && (eqb r.v p.v && b)) (eq-eqb r.t p.t (ap (λ (x : Place). x.t) e ∙ placed_itself es p.t))
+      ∙ turned (eqb r.k p.k) (eqb r.v p.v) ∙ (λ i. v i && k i) ∙ sym (ap (λ (b : Bool). b && (eqb p.v (place_at es p.t).v && eqb p.k (place_at es p.t).k)) (lt-ltb p.t (length es) h))
 
   -- a sound cursor is the place of its time
   pub sound_place : sound_at es p ≡ true → (p.t < length es) × FromPlace es p.k p.v p.t

@@ -1,24 +1,21 @@
 -- The chunk of the entries that reports of times name, written layer by layer: each writer has what it asks for, and what they leave is the chunk.
-use Rattle.std.proofs.Common.{◌≡◌, ℕ, zero, suc, ◌+◌, ◌-◌, ◌*◌, ◌^◌, ◌<◌, ◌≤◌, Bool, true, List, [], ◌∷◌, ◌++◌, length, get_or, take, drop, sym, refl, ap, ◌∙◌, append_assoc, zero-add, arith, length-append, length-take-le, get_or-drop, drop_at, le-leb}
+use Rattle.std.proofs.Common.{◌≡◌, ℕ, ◌+◌, ◌*◌, ◌≤◌, Bool, true, List, [], ◌∷◌, ◌++◌, length, take, drop, sym, refl, ap, ◌∙◌, append_assoc, zero-add, arith, length-append, length-take-le, drop_at, le-leb}
 use lib.ListN.{length-map}
-use Rattle.laws.proofs.Wrap.{plus_wraps}
 use Rattle.laws.proofs.Groups.{alike-key, alike_list}
 use Rattle.laws.proofs.OneChunk.{settled_stands}
 use Rattle.chunk.specs.Entry.{Entry, stands, every, same_list}
 use Rattle.chunk.specs.Bodies.{chunk_of, lasts_of, ends_of, same_key, keys, vals, times, diffs, val_ends, time_ends, diff_ends}
 use Rattle.chunk.specs.Words.{entries, over, limit, table_size, ends_rise}
-use Rattle.chunk.specs.Contents.{layout_within, with_table, table_of}
+use Rattle.chunk.specs.Contents.{layout_of, with_table, table_of}
 use Rattle.chunk.specs.declared.Contents.{Contents}
 use Rattle.meld.proofs.Append.{raised}
 use Rattle.meld.proofs.Counts.{val_ends_count, time_ends_count, diff_ends_count, times-count, keys_fewer, diffs_fewer}
 use Rattle.merge.specs.declared.Spans.{Spans}
 use Rattle.reports.specs.Survey.{Report}
-use Rattle.reports.specs.Gallop.{between}
 use Rattle.reports.specs.Scratch.{placed}
-use Rattle.reports.specs.Read.{Within}
 use Rattle.reports.specs.Write.{items_by, entries_by, widths, AllServe, Found, Counting, RunsRoom, EndsRoom, DiffsRoom, diffs_by, diff_ends_by, layer_by}
 use Rattle.reports.specs.Layered.{BodiesBy}
-use Rattle.merge.specs.Weft.{Weft, key_reports, val_reports, time_reports, named}
+use Rattle.merge.specs.Weft.{Weft, Laid, key_reports, val_reports, time_reports}
 use Rattle.reports.specs.Whole.{places_for, upper_of, middle_of, lower_of}
 use Rattle.reports.proofs.Placing.{placed_twice, length-placed}
 use Rattle.reports.proofs.Moving.{Reading, reading}
@@ -53,30 +50,6 @@ table_last k v t d b out h =
 pub ends-rise : (same : Entry → Entry → Bool) → Rattle.laws.proofs.Groups.Alike same → ((a : Entry) → same a a ≡ true) → (es : List Entry) → ends_rise 0 (ends_of same 0 es) (length es) ≡ true
 ends-rise same alike itself es = rw (← (zero-add (length es))) (rows_rise same {n = 0} {z = es} {reps = lasts_of same es} {ends = ends_of same 0 es} (rows_of same alike itself 0 es))
 
--- the bodies of a chunk are there
-parts_within : (w : List ℕ) (c : Contents) → Reading w c
-    → (Within w c.keys_at c.val_ends_at) × (Within w c.val_ends_at c.vals_at) × (Within w c.vals_at c.time_ends_at)
-    × (Within w c.time_ends_at c.times_at) × (Within w c.times_at c.diff_ends_at) × (Within w c.diff_ends_at c.diffs_at) × Within w c.diffs_at c.size
-parts_within w c r = (
-  record { ordered = omega (arith, r.val_end_place); within = omega (arith, r.val_placed, r.time_end_place, r.time_placed, r.diff_end_place, r.diff_place, r.end_place, r.whole) },
-  record { ordered = omega (arith, r.val_placed); within = omega (arith, r.time_end_place, r.time_placed, r.diff_end_place, r.diff_place, r.end_place, r.whole) },
-  record { ordered = omega (arith, r.time_end_place); within = omega (arith, r.time_placed, r.diff_end_place, r.diff_place, r.end_place, r.whole) },
-  record { ordered = omega (arith, r.time_placed); within = omega (arith, r.diff_end_place, r.diff_place, r.end_place, r.whole) },
-  record { ordered = omega (arith, r.diff_end_place); within = omega (arith, r.diff_place, r.end_place, r.whole) },
-  record { ordered = omega (arith, r.diff_place); within = omega (arith, r.end_place, r.whole) },
-  record { ordered = omega (arith, r.end_place); within = r.whole },
-)
-
--- the words of a part are words
-front_words : (n : ℕ) (l : List ℕ) → ((i : ℕ) → get_or l i 0 < 2 ^ 64) → (i : ℕ) → get_or (take n l) i 0 < 2 ^ 64
-front_words zero l h i = omega arith
-front_words (suc n) [] h i = omega arith
-front_words (suc n) (a ∷ l) h zero = h 0
-front_words (suc n) (a ∷ l) h (suc i) = front_words n l (λ j. h (suc j)) i
-
-small_words : (w : List ℕ) (from to : ℕ) (l : List ℕ) → between from to w ≡ l → ((i : ℕ) → get_or w i 0 < 2 ^ 64) → (i : ℕ) → get_or l i 0 < 2 ^ 64
-small_words w from to l e h i = rw (← e) (front_words (to - from) (drop from w) (λ j. rw (get_or-drop from w j 0) (h (from + j))) i)
-
 all_seven : (k ve v te t x : List ℕ) → ((k ++ (ve ++ v)) ++ (te ++ t)) ++ x ≡ k ++ (ve ++ (v ++ (te ++ (t ++ x))))
 all_seven k ve v te t x = simp append_assoc
 
@@ -86,28 +59,24 @@ raised-none [] = refl
 raised-none (a ∷ l) = let z : a + 0 ≡ a = omega arith in rw (z, raised-none l)
 
 -- the room is a number
-pub in_room : {w0 : List ℕ} {c0 : Contents} {w1 : List ℕ} {c1 : Contents} {s : List ℕ} {p : Spans} (m n : ℕ) → m ≡ n → Weft w0 c0 w1 c1 s p n → Weft w0 c0 w1 c1 s p m
+pub in_room : {w0 : List ℕ} {c0 : Contents} {w1 : List ℕ} {c1 : Contents} {ks vs ts : List Report} (m n : ℕ) → m ≡ n → Laid w0 c0 w1 c1 ks vs ts n → Laid w0 c0 w1 c1 ks vs ts m
 in_room m n e y = rw e y
 
+-- what is asked, by the reports themselves
+pub laid : {w0 : List ℕ} {c0 : Contents} {w1 : List ℕ} {c1 : Contents} {s : List ℕ} {p : Spans} {room : ℕ} → Weft w0 c0 w1 c1 s p room
+    → Laid w0 c0 w1 c1 (key_reports s p) (val_reports s p) (time_reports s p) room
+laid y = record { first = y.first; second = y.second; layered = y.layered; fits = y.fits }
+
 -- two settled chunks, and reports that lie under each other
-module _ (w0 : List ℕ) (c0 : Contents) (w1 : List ℕ) (c1 : Contents) (s : List ℕ) (p : Spans) (room : ℕ) (y : Weft w0 c0 w1 c1 s p room) where
+module _ (w0 : List ℕ) (c0 : Contents) (w1 : List ℕ) (c1 : Contents) (ks vs ts : List Report) (room : ℕ) (y : Laid w0 c0 w1 c1 ks vs ts room) where
   abbrev es : List Entry
   es = entries w0
 
   abbrev fs : List Entry
   fs = entries w1
 
-  abbrev ks : List Report
-  ks = key_reports s p
-
-  abbrev vs : List Report
-  vs = val_reports s p
-
-  abbrev ts : List Report
-  ts = time_reports s p
-
   abbrev pub all : List Entry
-  all = named w0 w1 s p
+  all = entries_by es fs ts
 
   r0 : Reading w0 c0
   r0 = reading w0 c0 y.first.chunk
@@ -134,15 +103,12 @@ module _ (w0 : List ℕ) (c0 : Contents) (w1 : List ℕ) (c1 : Contents) (s : Li
   serve_times = under_serves (time_ends es) (time_ends fs) (length es) (length fs) (ends-rise same_list alike_list list_itself es) (ends-rise same_list alike_list list_itself fs) vs ts y.layered.times_under
 
   count-keys : length (keys all) ≡ widths ks
-  unfolding named
   count-keys = ap length bodies.keys_by ∙ length-items (keys es) (keys fs) ks serve_keys
 
   count-vals : length (vals all) ≡ widths vs
-  unfolding named
   count-vals = ap length bodies.vals_by ∙ length-items (vals es) (vals fs) vs serve_vals
 
   count-times : length (times all) ≡ widths ts
-  unfolding named
   count-times = ap length (times_by es fs ts) ∙ length-items (times es) (times fs) ts (rw (times-count es, times-count fs) serve_times)
 
   few-keys : widths ks ≤ limit
@@ -150,46 +116,23 @@ module _ (w0 : List ℕ) (c0 : Contents) (w1 : List ℕ) (c1 : Contents) (s : Li
 
   -- ---- the places
 
-  pub keys-counting : Counting s 0 p.keys 0
-  keys-counting = record { stands = omega (arith, y.keys_stand); upward = serves_upward (length (keys es)) (length (keys fs)) ks serve_keys; small = omega (arith, few-keys) }
+  pub keys-counting : Counting ks 0
+  keys-counting = record { upward = serves_upward (length (keys es)) (length (keys fs)) ks serve_keys; small = omega (arith, few-keys) }
 
-  pub vals-counting : Counting s p.vals_at p.vals 0
-  vals-counting = record { stands = y.vals_stand; upward = serves_upward (length (vals es)) (length (vals fs)) vs serve_vals; small = omega (arith, y.layered.few-vals) }
+  pub vals-counting : Counting vs 0
+  vals-counting = record { upward = serves_upward (length (vals es)) (length (vals fs)) vs serve_vals; small = omega (arith, y.layered.few-vals) }
 
-  pub times-counting : Counting s p.times_at p.times 0
-  times-counting = record { stands = y.times_stand; upward = serves_upward (length es) (length fs) ts serve_times; small = omega (arith, y.layered.few-times) }
+  pub times-counting : Counting ts 0
+  times-counting = record { upward = serves_upward (length es) (length fs) ts serve_times; small = omega (arith, y.layered.few-times) }
 
-  pub places_are : (to : Contents) (nk nv nt : ℕ) → nk ≡ 0 + widths ks → nv ≡ 0 + widths vs → nt ≡ 0 + widths ts → to ≡ layout_within nk nv nt nt → to ≡ places_for all
-  unfolding layout_within
-  places_are to nk nv nt a b d e =
-      let k : nk ≡ length (keys all) = omega (arith, count-keys) in
-      let v : nv ≡ length (vals all) = omega (arith, count-vals) in
-      let t : nt ≡ length (times all) = omega (arith, count-times) in
-      e ∙ rw (
-        k,
-        v,
-        t,
-        le-leb (length (keys all)) limit (omega (arith, count-keys, few-keys)),
-        le-leb (length (vals all)) limit (omega (arith, count-vals, y.layered.few-vals)),
-        le-leb (length (times all)) limit (omega (arith, count-times, y.layered.few-times)),
-      )
+  pub places_are : (to : Contents) → to ≡ layout_of (widths ks) (widths vs) (widths ts) (widths ts) → to ≡ places_for all
+  places_are to e = e ∙ rw (count-keys, count-vals, count-times)
 
   -- ---- what the writers ask for
 
-  within0 : (Within w0 c0.keys_at c0.val_ends_at) × (Within w0 c0.val_ends_at c0.vals_at) × (Within w0 c0.vals_at c0.time_ends_at)
-      × (Within w0 c0.time_ends_at c0.times_at) × (Within w0 c0.times_at c0.diff_ends_at) × (Within w0 c0.diff_ends_at c0.diffs_at) × Within w0 c0.diffs_at c0.size
-  within0 = parts_within w0 c0 r0
-
-  within1 : (Within w1 c1.keys_at c1.val_ends_at) × (Within w1 c1.val_ends_at c1.vals_at) × (Within w1 c1.vals_at c1.time_ends_at)
-      × (Within w1 c1.time_ends_at c1.times_at) × (Within w1 c1.times_at c1.diff_ends_at) × (Within w1 c1.diff_ends_at c1.diffs_at) × Within w1 c1.diffs_at c1.size
-  within1 = parts_within w1 c1 r1
-
   module _ (to : Contents) (e : to ≡ places_for all) where
-    pub keys-room : (out : ℕ) → out ≡ room → RunsRoom (length (between c0.keys_at c0.val_ends_at w0)) (length (between c1.keys_at c1.val_ends_at w1)) s 0 p.keys to.keys_at out
-    keys-room out o = rw (r0.key_words, r1.key_words, e) (record { stands = omega (arith, y.keys_stand); serves = serve_keys; fits = omega (arith, y.fits) })
-
-    pub keys-within : (Within w0 c0.keys_at c0.val_ends_at) × Within w1 c1.keys_at c1.val_ends_at
-    keys-within = (within0.0, within1.0)
+    pub keys-room : (out : ℕ) → out ≡ room → RunsRoom (length (keys es)) (length (keys fs)) ks to.keys_at out
+    keys-room out o = rw e (record { serves = serve_keys; fits = omega (arith, y.fits) })
 
     vals-found : Found (val_ends es) (val_ends fs) ks vs
     vals-found =
@@ -202,39 +145,31 @@ module _ (w0 : List ℕ) (c0 : Contents) (w1 : List ℕ) (c1 : Contents) (s : Li
         found (time_ends es) (time_ends fs) (length es) (length fs) (ends-rise same_list alike_list list_itself es) (ends-rise same_list alike_list list_itself fs)
         0 0 vs ts (rw (val-count es, val-count fs) at y.layered.vals_inside) y.layered.times_under
 
-    -- the layer of the values
-    pub record LayerRoom (ends0 items0 stop0 ends1 items1 stop1 from lists first items edge body out : ℕ) : Type 0 where
-      pub ends : EndsRoom (between ends0 items0 w0) (between ends1 items1 w1) s from lists first items 0 edge out
-      pub runs : RunsRoom (length (between items0 stop0 w0)) (length (between items1 stop1 w1)) s first items body out
-      pub in0 : (Within w0 ends0 items0) × Within w0 items0 stop0
-      pub in1 : (Within w1 ends1 items1) × Within w1 items1 stop1
+    -- a layer
+    pub record LayerRoom (ends0 items0 ends1 items1 : List ℕ) (ls is : List Report) (edge body out : ℕ) : Type 0 where
+      pub ends : EndsRoom ends0 ends1 ls is 0 edge out
+      pub runs : RunsRoom (length items0) (length items1) is body out
 
-    pub vals-room : (out : ℕ) → out ≡ room
-        → LayerRoom c0.val_ends_at c0.vals_at c0.time_ends_at c1.val_ends_at c1.vals_at c1.time_ends_at 0 p.keys p.vals_at p.vals to.val_ends_at to.vals_at out
+    pub vals-room : (out : ℕ) → out ≡ room → LayerRoom (val_ends es) (vals es) (val_ends fs) (vals fs) ks vs to.val_ends_at to.vals_at out
     vals-room out o =
         record {
-          ends = rw (r0.val_end_words, r1.val_end_words, e) (record { stands = omega (arith, y.keys_stand); rise0 = rw r0.val_end_words at r0.val_ends-rise.rise; rise1 = rw r1.val_end_words at r1.val_ends-rise.rise; found = vals-found; counting = vals-counting; fits = omega (arith, y.fits, count-keys) });
-          runs = rw (r0.val_words, r1.val_words, e) (record { stands = y.vals_stand; serves = serve_vals; fits = omega (arith, y.fits, count-keys) });
-          in0 = (within0.1, within0.2);
-          in1 = (within1.1, within1.2);
+          ends = rw e (record { rise0 = rw r0.val_end_words at r0.val_ends-rise.rise; rise1 = rw r1.val_end_words at r1.val_ends-rise.rise; found = vals-found; counting = vals-counting; fits = omega (arith, y.fits, count-keys) });
+          runs = rw e (record { serves = serve_vals; fits = omega (arith, y.fits, count-keys) });
         }
 
-    pub times-room : (out : ℕ) → out ≡ room
-        → LayerRoom c0.time_ends_at c0.times_at c0.diff_ends_at c1.time_ends_at c1.times_at c1.diff_ends_at p.vals_at p.vals p.times_at p.times to.time_ends_at to.times_at out
+    pub times-room : (out : ℕ) → out ≡ room → LayerRoom (time_ends es) (times es) (time_ends fs) (times fs) vs ts to.time_ends_at to.times_at out
     times-room out o =
         record {
-          ends = rw (r0.time_end_words, r1.time_end_words, e) (record { stands = y.vals_stand; rise0 = rw r0.time_end_words at r0.time_ends-rise.rise; rise1 = rw r1.time_end_words at r1.time_ends-rise.rise; found = times-found; counting = times-counting; fits = omega (arith, y.fits, count-keys, count-vals) });
-          runs = rw (r0.time_words, r1.time_words, e) (record { stands = y.times_stand; serves = rw (times-count es, times-count fs) serve_times; fits = omega (arith, y.fits, count-keys, count-vals) });
-          in0 = (within0.3, within0.4);
-          in1 = (within1.3, within1.4);
+          ends = rw e (record { rise0 = rw r0.time_end_words at r0.time_ends-rise.rise; rise1 = rw r1.time_end_words at r1.time_ends-rise.rise; found = times-found; counting = times-counting; fits = omega (arith, y.fits, count-keys, count-vals) });
+          runs = rw e (record { serves = rw (times-count es, times-count fs) serve_times; fits = omega (arith, y.fits, count-keys, count-vals) });
         }
 
     -- what they leave
     pub upper_laid_lem : (out out1 out2 : List ℕ) → length out ≡ room
-        → out1 ≡ placed to.keys_at (items_by (between c0.keys_at c0.val_ends_at w0) (between c1.keys_at c1.val_ends_at w1) ks) out
-        → out2 ≡ layer_by (between c0.val_ends_at c0.vals_at w0) (between c0.vals_at c0.time_ends_at w0) (between c1.val_ends_at c1.vals_at w1) (between c1.vals_at c1.time_ends_at w1) ks vs to.val_ends_at to.vals_at out1
+        → out1 ≡ placed to.keys_at (items_by (keys es) (keys fs) ks) out
+        → out2 ≡ layer_by (val_ends es) (vals es) (val_ends fs) (vals fs) ks vs to.val_ends_at to.vals_at out1
         → out2 ≡ placed table_size (upper_of all) out
-    unfolding named upper_of
+    unfolding upper_of
     upper_laid_lem out out1 out2 o a b =
         let k = keys all in
         let ve = val_ends all in
@@ -242,24 +177,24 @@ module _ (w0 : List ℕ) (c0 : Contents) (w1 : List ℕ) (c1 : Contents) (s : Li
         let nve : length ve ≡ length k = val_ends_count all in
         let big : table_size + 2 * length k + length v ≤ length out = omega (arith, y.fits, count-keys, count-vals) in
         let n1 : length (k ++ ve) ≡ 2 * length k = omega (arith, length-append k ve) in
-        let l1 : out1 ≡ placed table_size k out = a ∙ rw (r0.key_words, r1.key_words, e) (ap (λ (l : List ℕ). placed table_size l out) (sym bodies.keys_by)) in
+        let l1 : out1 ≡ placed table_size k out = a ∙ rw e (ap (λ (l : List ℕ). placed table_size l out) (sym bodies.keys_by)) in
         let l2 : out2 ≡ placed table_size ((k ++ ve) ++ v) out =
         next_placed table_size (k ++ ve) v out (table_size + 2 * length k) (next_placed table_size k ve out (table_size + length k) l1 refl (omega arith) refl) (omega arith) (omega arith)
-        (b ∙ rw (r0.val_end_words, r0.val_words, r1.val_end_words, r1.val_words, e)
+        (b ∙ rw e
         (λ i. placed (table_size + 2 * length k) (sym bodies.vals_by i) (placed (table_size + length k) (sym bodies.val_ends_by i) out1))) in
         l2 ∙ ap (λ (l : List ℕ). placed table_size l out) (append_assoc k ve v)
 
     pub middle_laid : (out out1 : List ℕ) → length out ≡ room
-        → out1 ≡ layer_by (between c0.time_ends_at c0.times_at w0) (between c0.times_at c0.diff_ends_at w0) (between c1.time_ends_at c1.times_at w1) (between c1.times_at c1.diff_ends_at w1) vs ts to.time_ends_at to.times_at out
+        → out1 ≡ layer_by (time_ends es) (times es) (time_ends fs) (times fs) vs ts to.time_ends_at to.times_at out
         → out1 ≡ placed to.time_ends_at (middle_of all) out
-    unfolding named middle_of
+    unfolding middle_of
     middle_laid out out1 o d =
         let k = keys all in
         let v = vals all in
         let nte : length (time_ends all) ≡ length v = time_ends_count all in
         let big : table_size + 2 * length k + 2 * length v ≤ length out = omega (arith, y.fits, count-keys, count-vals) in
         next_placed to.time_ends_at (time_ends all) (times all) out to.times_at refl (rw e (omega arith)) (rw e (omega arith))
-        (d ∙ rw (r0.time_end_words, r0.time_words, r1.time_end_words, r1.time_words)
+        (d ∙
         (λ i. placed to.times_at (sym (times_by es fs ts) i) (placed to.time_ends_at (sym bodies.time_ends_by i) out)))
 
     many0 : length (diffs es) ≡ length es
@@ -273,11 +208,11 @@ module _ (w0 : List ℕ) (c0 : Contents) (w1 : List ℕ) (c1 : Contents) (s : Li
 
     -- the layer of the diffs
     pub diff_ends-room : (out : ℕ) → out ≡ room
-        → DiffsRoom (between c0.diff_ends_at c0.diffs_at w0) (between c1.diff_ends_at c1.diffs_at w1) (between c0.diffs_at c0.size w0) (between c1.diffs_at c1.size w1) s p.times_at p.times 0 to.diff_ends_at out
+        → DiffsRoom (diff_ends es) (diff_ends fs) (diffs es) (diffs fs) ts 0 to.diff_ends_at out
     diff_ends-room out o =
-        rw (r0.diff_end_words, r1.diff_end_words, r0.diff_words, r1.diff_words, e)
+        rw e
         (record {
-          runs = record { stands = y.times_stand; serves = serve_diffs; fits = omega (arith, y.fits, count-keys, count-vals, count-times) };
+          runs = record { serves = serve_diffs; fits = omega (arith, y.fits, count-keys, count-vals, count-times) };
           some = under_some (time_ends es) (time_ends fs) (length es) (length fs) (ends-rise same_list alike_list list_itself es) (ends-rise same_list alike_list list_itself fs) vs ts y.layered.times_under;
           long0 = diff_ends_count es ∙ times-count es ∙ sym many0;
           long1 = diff_ends_count fs ∙ times-count fs ∙ sym many1;
@@ -286,44 +221,35 @@ module _ (w0 : List ℕ) (c0 : Contents) (w1 : List ℕ) (c1 : Contents) (s : Li
           small = omega (arith, y.layered.few-times);
         })
 
-    pub diffs-room : (out : ℕ) → out ≡ room → RunsRoom (length (between c0.diffs_at c0.size w0)) (length (between c1.diffs_at c1.size w1)) s p.times_at p.times to.diffs_at out
+    pub diffs-room : (out : ℕ) → out ≡ room → RunsRoom (length (diffs es)) (length (diffs fs)) ts to.diffs_at out
     diffs-room out o =
-        rw (r0.diff_words, r1.diff_words, e) (record { stands = y.times_stand; serves = serve_diffs; fits = omega (arith, y.fits, count-keys, count-vals, count-times) })
+        rw e (record { serves = serve_diffs; fits = omega (arith, y.fits, count-keys, count-vals, count-times) })
 
-    pub diffs-within : ((Within w0 c0.diff_ends_at c0.diffs_at) × Within w0 c0.diffs_at c0.size) × ((Within w1 c1.diff_ends_at c1.diffs_at) × Within w1 c1.diffs_at c1.size)
-    diffs-within = ((within0.5, within0.6), (within1.5, within1.6))
+    diffs_are : diffs all ≡ diffs_by (diffs es) (diffs fs) ts
+    diffs_are = diffs_by_lem es fs stand0 stand1 ts serve_times
 
-    module _ (words0 : (i : ℕ) → get_or w0 i 0 < 2 ^ 64) (words1 : (i : ℕ) → get_or w1 i 0 < 2 ^ 64) where
-      diffs_are : diffs all ≡ diffs_by (diffs es) (diffs fs) ts
-      unfolding named
-      diffs_are =
-          diffs_by_lem es fs stand0 stand1 (small_words w0 c0.diffs_at c0.size (diffs es) r0.diff_words words0) (small_words w1 c1.diffs_at c1.size (diffs fs) r1.diff_words words1)
-          plus_wraps ts serve_times
+    diff_ends_are : diff_ends all ≡ diff_ends_by (diff_ends es) (diff_ends fs) (diffs es) (diffs fs) 0 ts
+    diff_ends_are =
+        sym (raised-none (diff_ends (entries_by es fs ts)))
+        ∙ diff_ends_by_lem es fs stand0 stand1 y.layered.few0 y.layered.few1 0 ts serve_times
+        (under_some (time_ends es) (time_ends fs) (length es) (length fs) (ends-rise same_list alike_list list_itself es) (ends-rise same_list alike_list list_itself fs) vs ts y.layered.times_under)
+        (omega (arith, y.layered.few-times))
 
-      diff_ends_are : diff_ends all ≡ diff_ends_by (diff_ends es) (diff_ends fs) (diffs es) (diffs fs) 0 ts
-      unfolding named
-      diff_ends_are =
-          sym (raised-none (diff_ends (entries_by es fs ts)))
-          ∙ diff_ends_by_lem es fs stand0 stand1 (small_words w0 c0.diffs_at c0.size (diffs es) r0.diff_words words0) (small_words w1 c1.diffs_at c1.size (diffs fs) r1.diff_words words1)
-          plus_wraps y.layered.few0 y.layered.few1 0 ts serve_times
-          (under_some (time_ends es) (time_ends fs) (length es) (length fs) (ends-rise same_list alike_list list_itself es) (ends-rise same_list alike_list list_itself fs) vs ts y.layered.times_under)
-          (omega (arith, y.layered.few-times))
-
-      -- what they leave
-      pub lower_laid_lem : (out out1 out2 : List ℕ) (end : ℕ) → length out ≡ room
-          → out1 ≡ placed to.diff_ends_at (diff_ends_by (between c0.diff_ends_at c0.diffs_at w0) (between c1.diff_ends_at c1.diffs_at w1) (between c0.diffs_at c0.size w0) (between c1.diffs_at c1.size w1) 0 ts) out
-          → end ≡ to.diffs_at + length (diffs_by (between c0.diffs_at c0.size w0) (between c1.diffs_at c1.size w1) ts)
-          → out2 ≡ placed to.diffs_at (diffs_by (between c0.diffs_at c0.size w0) (between c1.diffs_at c1.size w1) ts) out1
-          → (end ≡ to.diffs_at + length (diffs all)) × (out2 ≡ placed to.diff_ends_at (lower_of all) out)
-      unfolding lower_of
-      lower_laid_lem out out1 out2 end o a b d = (
-        b ∙ rw (r0.diff_words, r1.diff_words) (ap (λ (l : List ℕ). to.diffs_at + length l) (sym diffs_are)),
-        next_placed to.diff_ends_at (diff_ends all) (diffs all) out to.diffs_at
-            (a ∙ rw (r0.diff_end_words, r1.diff_end_words, r0.diff_words, r1.diff_words) (ap (λ (l : List ℕ). placed to.diff_ends_at l out) (sym diff_ends_are)))
-            (rw e (omega (arith, diff_ends_count all)))
-            (rw e (omega (arith, diff_ends_count all, y.fits, count-keys, count-vals, count-times)))
-            (d ∙ rw (r0.diff_words, r1.diff_words) (ap (λ (l : List ℕ). placed to.diffs_at l out1) (sym diffs_are))),
-      )
+    -- what they leave
+    pub lower_laid_lem : (out out1 out2 : List ℕ) (end : ℕ) → length out ≡ room
+        → out1 ≡ placed to.diff_ends_at (diff_ends_by (diff_ends es) (diff_ends fs) (diffs es) (diffs fs) 0 ts) out
+        → end ≡ to.diffs_at + length (diffs_by (diffs es) (diffs fs) ts)
+        → out2 ≡ placed to.diffs_at (diffs_by (diffs es) (diffs fs) ts) out1
+        → (end ≡ to.diffs_at + length (diffs all)) × (out2 ≡ placed to.diff_ends_at (lower_of all) out)
+    unfolding lower_of
+    lower_laid_lem out out1 out2 end o a b d = (
+      b ∙ ap (λ (l : List ℕ). to.diffs_at + length l) (sym diffs_are),
+      next_placed to.diff_ends_at (diff_ends all) (diffs all) out to.diffs_at
+          (a ∙ ap (λ (l : List ℕ). placed to.diff_ends_at l out) (sym diff_ends_are))
+          (rw e (omega (arith, diff_ends_count all)))
+          (rw e (omega (arith, diff_ends_count all, y.fits, count-keys, count-vals, count-times)))
+          (d ∙ ap (λ (l : List ℕ). placed to.diffs_at l out1) (sym diffs_are)),
+    )
 
     -- the table past all of them, and the chunk stands
     pub whole_laid : (out out1 out2 out3 out4 : List ℕ) (d : ℕ) → length out ≡ room → out1 ≡ placed table_size (upper_of all) out

@@ -4,3 +4,5 @@ pub mod Outcome
 pub mod Spots
 pub mod Strode
 pub mod Surveyed
+pub mod Said
+pub mod Rows

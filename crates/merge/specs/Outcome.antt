@@ -1,12 +1,23 @@
 -- What merge answers (document 01, "Merge": "which input survives, if one does, and its cursor"): the number, and the survivor where it is 0.
-use Rattle.std.specs.Prelude.{◌≡◌, ℕ, zero, suc, List}
+use Rattle.std.specs.Prelude.{◌≡◌, ℕ, zero, suc, List, Result, Ok, Err}
 use Rattle.chunk.specs.Words.{entries}
+use Rattle.chunk.specs.Answer.{number_of}
+use Rattle.chunk.specs.declared.Refusal.{Refusal}
 use Rattle.merge.specs.declared.Cursor.{Cursor}
 use Rattle.merge.specs.declared.Survivor.{Survivor}
 use Rattle.merge.specs.declared.Survivor.TheVariants.{Nobody, First, Second}
-use Rattle.merge.specs.declared.Joined.{Joined}
 use Rattle.reports.specs.Merge.{Place, Survives, nobody, the_first, the_second, survivor, merge_number, merge_out}
 use Rattle.reports.specs.Refusals.{Refused}
+
+-- the number, and the survivor where it is 0
+pub record Joined : Type 0 where
+  pub number : ℕ
+  pub survivor : Survivor
+
+-- an answer of the call as these two
+abbrev pub joined_of : Result Survivor Refusal → Joined
+joined_of (Ok s) = record { number = 0; survivor = s }
+joined_of (Err e) = record { number = number_of e; survivor = Nobody }
 
 -- a place as a cursor
 abbrev pub cursor_at : Place → Cursor
@@ -15,8 +26,8 @@ cursor_at p = record { k = p.k; v = p.v; t = p.t }
 -- who survives, as the call says it
 abbrev pub survivor_of : Survives → Survivor
 survivor_of nobody = Nobody
-survivor_of (the_first p) = First p.k p.v p.t
-survivor_of (the_second p) = Second p.k p.v p.t
+survivor_of (the_first p) = First (cursor_at p)
+survivor_of (the_second p) = Second (cursor_at p)
 
 -- nobody survives a refusal
 abbrev pub answer_by : ℕ → Survives → Joined

@@ -7,13 +7,12 @@ use Rattle.chunk.specs.Words.{entries, over, limit}
 use Rattle.chunk.specs.declared.Contents.{Contents}
 use Rattle.merge.specs.declared.Surveys.{Surveys}
 use Rattle.merge.specs.declared.Spans.{Spans}
-use Rattle.merge.specs.declared.Joined.{Joined}
 use Rattle.reports.specs.Merge.{merged, survivor, overflows, nobody}
 use Rattle.reports.specs.Scratch.{reports_at, placed, report_words}
 use Rattle.reports.specs.Layers.{key_survey, val_survey, time_survey}
 use Rattle.reports.specs.Tail.{trimmed}
 use Rattle.reports.specs.Whole.{Whole}
-use Rattle.merge.specs.Outcome.{answer_by}
+use Rattle.merge.specs.Outcome.{Joined, answer_by}
 
 -- the three surveys stand one past the other at the front of scratch, and the answer gives the place past each
 pub record LayersSurveyed (es fs : List Entry) (s s' : List ℕ) (r : Surveys) : Type 0 where

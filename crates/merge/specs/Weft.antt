@@ -33,6 +33,13 @@ pub record Weft (w0 : List ℕ) (c0 : Contents) (w1 : List ℕ) (c1 : Contents) 
   pub layered : Layered (entries w0) (entries w1) (key_reports s p) (val_reports s p) (time_reports s p)
   pub fits : table_size + 2 * widths (key_reports s p) + 2 * widths (val_reports s p) + 3 * widths (time_reports s p) ≤ room
 
+-- the same by the reports themselves
+pub record Laid (w0 : List ℕ) (c0 : Contents) (w1 : List ℕ) (c1 : Contents) (ks vs ts : List Report) (room : ℕ) : Type 0 where
+  pub first : Whole w0 c0
+  pub second : Whole w1 c1
+  pub layered : Layered (entries w0) (entries w1) ks vs ts
+  pub fits : table_size + 2 * widths ks + 2 * widths vs + 3 * widths ts ≤ room
+
 -- the entries that the reports of the times name
 unfoldable pub named : List ℕ → List ℕ → List ℕ → Spans → List Entry
 unfolding entries_by reports_at

@@ -1,25 +1,32 @@
 #![tactic(auto)]
 
 ghost use Rattle.std.specs.Prelude.{◌≡◌, ◌+◌, ◌-◌, ◌*◌, ◌<◌, ◌≤◌, true, false, [], ◌∷◌, length, drop, slice_index};
-ghost use Rattle.chunk.specs.Words.{entries, over};
+ghost use Rattle.chunk.specs.Words.{entries, over, rises, val_end_body, val_body, time_end_body, time_body};
 ghost use Rattle.chunk.specs.Bodies.{chunk_of};
+ghost use Rattle.chunk.specs.Answer.{answer_number};
 ghost use Rattle.chunk.specs.Contents.{start_of};
 ghost use Rattle.reports.specs.Merge.{sound_at, suffix_number, suffix_out};
 ghost use Rattle.merge.specs.Suffix.{place_of, Ready};
 ghost use Rattle.reports.specs.Read.{Read};
 ghost use Rattle.reports.specs.Run.{part_of, run_of};
-ghost use Rattle.merge.specs.Outcome.{MergeAnswers};
+ghost use Rattle.merge.specs.Outcome.{MergeAnswers, joined_of};
 ghost use Rattle.reports.specs.Layers.{LayersRoom};
 ghost use Rattle.merge.specs.Surveyed.{LayersSurveyed};
-ghost use Rattle.reports.specs.Gallop.{below_at, settled, Reached, Rises, run_end};
+ghost use Rattle.reports.specs.Gallop.{below_at, settled, Reached};
 ghost use Rattle.merge.specs.Strode.{Strode};
-ghost use Rattle.reports.specs.Survey.{both};
-ghost use Rattle.reports.specs.Scratch.{placed, words_of, report, report_words, step_report, PairRoom, pair_of, OneRoom, SurveyRoom, survey_of, surveyed, reports_at};
-ghost use Rattle.merge.specs.Spots.{spot_after};
+ghost use Rattle.reports.specs.Survey.{below};
+ghost use Rattle.reports.specs.Scratch.{placed, words_of, report_words, PairRoom, OneRoom, SurveyRoom, survey_of, surveyed, reports_at};
+ghost use Rattle.merge.specs.Said.{said};
+ghost use Rattle.merge.specs.Spots.{spot_after, head_report, reports_left};
 
 mod pair;
+mod report;
+mod row;
 mod weft;
 mod write;
+
+use chunk::{Chunk, Contents, Range, Refusal};
+use report::{Kind, Report};
 
 // Where the doubling steps stand: at an item of the run, and the step that would have left it.
 #[derive(Clone, Copy)]
@@ -28,26 +35,22 @@ struct Stride {
     step: usize,
 }
 
-// Whether `at` is short of `upper` and its item below `target`.
-fn below_at(items: &[u64], at: usize, upper: usize, target: u64) -> bool
-    requires { upper ≤ length items.now }
-    ensures { result ≡ below_at items.now upper target at }
+// Whether there is an item at `at` that is below `target`.
+fn below_at(items: &[u64], at: usize, target: u64) -> bool
+    ensures { result ≡ below_at items.now (length items.now) target at }
 {
-    if upper <= at {
-        return false;
-    }
-    items[at] < target
+    at < items.len() && items[at] < target
 }
 
-// Doubling steps, as long as they land below `target`.
-fn gallop_up(items: &[u64], from: usize, upper: usize, target: u64) -> Stride
-    requires upper_in_bounds { upper ≤ length items.now }
-    requires from_value { below_at items.now upper target from ≡ true }
-    ensures { Strode items.now from upper target result }
+// Doubling steps from the front, as long as they land below `target`.
+// Kept: doubling and halving steps from the front, which are the Rust's `gallop`: a run is short beside what is left, and few items are read.
+fn gallop_up(items: &[u64], target: u64) -> Stride
+    requires { below_at items.now (length items.now) target 0 ≡ true }
+    ensures { Strode items.now 0 (length items.now) target result }
 {
-    let mut lower = from;
+    let mut lower = 0;
     let mut step: usize = 1;
-    while below_at(items, lower + step, upper, target) {
+    while below_at(items, lower + step, target) {
         lower += step;
         step *= 2;
     }
@@ -55,55 +58,41 @@ fn gallop_up(items: &[u64], from: usize, upper: usize, target: u64) -> Stride
 }
 
 // One halving step: taken where it lands below `target`.
-fn settle(items: &[u64], lower: usize, step: usize, upper: usize, target: u64) -> usize
-    requires upper_in_bounds { upper ≤ length items.now }
-    requires lower_lt_upper { (lower < upper) × (step ≤ upper) }
-    ensures { result ≡ settled items.now lower step upper target }
+fn settle(items: &[u64], lower: usize, step: usize, target: u64) -> usize
+    requires { (lower < length items.now) × (step ≤ length items.now) }
+    ensures { result ≡ settled items.now lower step (length items.now) target }
 {
-    if below_at(items, lower + step, upper, target) {
+    if below_at(items, lower + step, target) {
         return lower + step;
     }
     lower
 }
 
-// Halving steps, down to the last item below `target`.
-fn gallop_down(items: &[u64], from: usize, wide: usize, upper: usize, target: u64) -> usize
-    requires upper_in_bounds { upper ≤ length items.now }
-    requires strode { Strode items.now from upper target (record { lower = from; step = wide }) }
-    ensures { Reached items.now from upper target result }
+// Halving steps from where the doubling ones stand, down to the last item below `target`.
+fn gallop_down(items: &[u64], stride: Stride, target: u64) -> usize
+    requires { Strode items.now 0 (length items.now) target stride }
+    ensures { Reached items.now 0 (length items.now) target result }
 {
-    let mut lower = from;
-    let mut step = wide / 2;
+    let mut lower = stride.lower;
+    let mut step = stride.step / 2;
     while 0 < step {
-        lower = settle(items, lower, step, upper, target);
+        lower = settle(items, lower, step, target);
         step /= 2;
     }
     lower
 }
 
-// The end of the run of items below `target`, in the rising items from `from` to `upper`.
-fn gallop(items: &[u64], from: usize, upper: usize, target: u64) -> usize
-    requires { Rises items.now from upper }
-    ensures { result ≡ run_end items.now from upper target }
+// How many items from the front of rising ones are below `target`.
+fn gallop(items: &[u64], target: u64) -> usize
+    requires { rises items.now ≡ true }
+    ensures { result ≡ below target items.now }
 {
-    if upper <= from {
-        return from;
+    if !below_at(items, 0, target) {
+        return 0;
     }
-    if target <= items[from] {
-        return from;
-    }
-    let stride = gallop_up(items, from, upper, target);
-    let lower = stride.lower;
-    let step = stride.step;
-    gallop_down(items, lower, step, upper, target) + 1
+    let stride = gallop_up(items, target);
+    gallop_down(items, stride, target) + 1
 }
-
-// The kinds of a report: a run of the first input, a run of the second, an item of both.
-const THIS: u64 = 0;
-
-const THAT: u64 = 1;
-
-const BOTH: u64 = 2;
 
 // How far a survey has come in each input.
 #[derive(Clone, Copy)]
@@ -112,159 +101,165 @@ struct Spot {
     lower1: usize,
 }
 
-// Writes one report at `at`.
-fn put(scratch: &mut [u64], at: usize, kind: u64, low: usize, high: usize)
-    requires { at + 3 ≤ length scratch.old }
-    ensures { scratch.new ≡ placed at (kind ∷ low ∷ high ∷ []) scratch.old }
+// Writes the report of the two items where a survey stands, and answers where it stands past them.
+// Kept: the scratch and the place go on by themselves, as the output and the place do in write.rt.
+fn survey_step(items0: &[u64], items1: &[u64], spot: Spot, scratch: &mut [u64], at: usize) -> Spot
+    requires pair_room { PairRoom items0.now spot.lower0 (length items0.now) items1.now spot.lower1 (length items1.now) scratch.old at }
+    requires left { (spot.lower0 < length items0.now) × (spot.lower1 < length items1.now) }
+    ensures value { result ≡ spot_after (head_report items0.now items1.now spot) spot.lower0 spot.lower1 }
+    ensures scratch_after { scratch.new ≡ placed at (words_of (head_report items0.now items1.now spot)) scratch.old }
 {
-    scratch[at] = kind;
-    scratch[at + 1] = low as u64;
-    scratch[at + 2] = high as u64;
-}
-
-// Writes the report of the two heads, and answers where both inputs stand past it.
-fn survey_step(
-    items0: &[u64],
-    lower0: usize,
-    upper0: usize,
-    items1: &[u64],
-    lower1: usize,
-    upper1: usize,
-    scratch: &mut [u64],
-    at: usize,
-) -> Spot
-    requires pair_room { PairRoom items0.now lower0 upper0 items1.now lower1 upper1 scratch.old at }
-    requires lower0_lt_upper0 { (lower0 < upper0) × (lower1 < upper1) }
-    ensures value { result ≡ spot_after (step_report items0.now lower0 upper0 items1.now lower1 upper1) lower0 lower1 }
-    ensures scratch_after { scratch.new ≡ placed at (words_of (step_report items0.now lower0 upper0 items1.now lower1 upper1)) scratch.old }
-{
+    let Spot { lower0, lower1 } = spot;
     let val0 = items0[lower0];
     let val1 = items1[lower1];
     if val0 == val1 {
-        put(scratch, at, BOTH, lower0, lower1);
+        Report::both(lower0, lower1).write(scratch, at);
         return Spot {
             lower0: lower0 + 1,
             lower1: lower1 + 1,
         };
     }
     if val0 < val1 {
-        let end = gallop(items0, lower0 + 1, upper0, val1);
-        put(scratch, at, THIS, lower0, end);
+        let end = lower0 + 1 + gallop(&items0[lower0 + 1..], val1);
+        Report::this(lower0, end).write(scratch, at);
         return Spot {
             lower0: end,
             lower1,
         };
     }
-    let end = gallop(items1, lower1 + 1, upper1, val0);
-    put(scratch, at, THAT, lower1, end);
+    let end = lower1 + 1 + gallop(&items1[lower1 + 1..], val0);
+    Report::that(lower1, end).write(scratch, at);
     Spot {
         lower0,
         lower1: end,
     }
 }
 
-// Writes the reports of two lists from `from` on, and answers the place past them.
+// Writes the reports of two lists from `start` on, and answers the place past them.
 fn survey_pair(
     items0: &[u64],
-    from0: usize,
-    upper0: usize,
     items1: &[u64],
-    from1: usize,
-    upper1: usize,
+    start: Spot,
     scratch: &mut [u64],
     from: usize,
 ) -> usize
-    requires { PairRoom items0.now from0 upper0 items1.now from1 upper1 scratch.old from }
-    ensures value { result ≡ from + 3 * length (pair_of items0.now from0 upper0 items1.now from1 upper1) }
-    ensures scratch_after { scratch.new ≡ placed from (report_words (pair_of items0.now from0 upper0 items1.now from1 upper1)) scratch.old }
+    requires { PairRoom items0.now start.lower0 (length items0.now) items1.now start.lower1 (length items1.now) scratch.old from }
+    ensures value { result ≡ from + 3 * length (reports_left items0.now items1.now start) }
+    ensures scratch_after { scratch.new ≡ placed from (report_words (reports_left items0.now items1.now start)) scratch.old }
 {
-    let mut lower0 = from0;
-    let mut lower1 = from1;
+    let mut spot = start;
     let mut at = from;
-    while lower0 < upper0 {
-        if upper1 <= lower1 {
-            put(scratch, at, THIS, lower0, upper0);
+    // Kept: a report says how far both indices go on, which no range or iterator does.
+    while spot.lower0 < items0.len() {
+        if items1.len() <= spot.lower1 {
+            Report::this(spot.lower0, items0.len()).write(scratch, at);
             return at + 3;
         }
-        let spot = survey_step(items0, lower0, upper0, items1, lower1, upper1, scratch, at);
-        lower0 = spot.lower0;
-        lower1 = spot.lower1;
+        spot = survey_step(items0, items1, spot, scratch, at);
         at += 3;
     }
-    if lower1 < upper1 {
-        put(scratch, at, THAT, lower1, upper1);
+    if spot.lower1 < items1.len() {
+        Report::that(spot.lower1, items1.len()).write(scratch, at);
         return at + 3;
     }
     at
 }
 
-// Writes the run of the items of the lists from `low` to `high` of one input.
-fn survey_run(ends: &[u64], kind: u64, low: usize, high: usize, scratch: &mut [u64], at: usize)
-    requires low_lt_high { (low < high) × (high ≤ length ends.now) }
-    requires at_in_bounds { at + 3 ≤ length scratch.old }
-    ensures { scratch.new ≡ placed at (kind ∷ start_of ends.now low ∷ slice_index ends.now (high - 1) ∷ []) scratch.old }
+// A layer of one input: the ends of its lists, and the items.
+#[derive(Clone, Copy)]
+struct Layer<'a> {
+    ends: &'a [u64],
+    items: &'a [u64],
+}
+
+impl<'a> Layer<'a> {
+    // The values of a chunk, by their keys.
+    fn vals(chunk: Chunk<'a>) -> Layer<'a>
+        ensures ends { result.ends.now ≡ val_end_body chunk.entry.words.now }
+        ensures items { result.items.now ≡ val_body chunk.entry.words.now }
+    {
+        Layer {
+            ends: chunk.val_ends(),
+            items: chunk.vals(),
+        }
+    }
+
+    // The times of a chunk, by their values.
+    fn times(chunk: Chunk<'a>) -> Layer<'a>
+        ensures ends { result.ends.now ≡ time_end_body chunk.entry.words.now }
+        ensures items { result.items.now ≡ time_body chunk.entry.words.now }
+    {
+        Layer {
+            ends: chunk.time_ends(),
+            items: chunk.times(),
+        }
+    }
+}
+
+// From where to where the lists of a run of one input have their items.
+fn items_of(ends: &[u64], run: Report) -> Range
+    requires { (run.low < run.high) × (run.high ≤ length ends.now) }
+    ensures { result ≡ record { lower = start_of ends.now run.low; upper = slice_index ends.now (run.high - 1) } }
 {
-    let front = chunk::child_range(ends, low);
-    let back = chunk::child_range(ends, high - 1);
-    put(scratch, at, kind, front.lower, back.upper);
+    Range {
+        lower: chunk::child_range(ends, run.low).lower,
+        upper: chunk::child_range(ends, run.high - 1).upper,
+    }
 }
 
 // Writes what one report of the layer above becomes, and answers the place past it.
-fn survey_one(
-    ends0: &[u64],
-    items0: &[u64],
-    ends1: &[u64],
-    items1: &[u64],
-    kind: u64,
-    low: usize,
-    high: usize,
-    scratch: &mut [u64],
-    at: usize,
-) -> usize
-    requires { OneRoom ends0.now items0.now ends1.now items1.now (report kind low high) scratch.old at }
-    ensures value { result ≡ at + 3 * length (survey_of ends0.now items0.now ends1.now items1.now (report kind low high)) }
-    ensures scratch_after { scratch.new ≡ placed at (report_words (survey_of ends0.now items0.now ends1.now items1.now (report kind low high))) scratch.old }
+fn survey_one(first: Layer, second: Layer, report: Report, scratch: &mut [u64], at: usize) -> usize
+    requires { OneRoom first.ends.now first.items.now second.ends.now second.items.now (said report) scratch.old at }
+    ensures value { result ≡ at + 3 * length (survey_of first.entry.ends.now first.entry.items.now second.entry.ends.now second.entry.items.now (said report)) }
+    ensures scratch_after { scratch.new ≡ placed at (report_words (survey_of first.entry.ends.now first.entry.items.now second.entry.ends.now second.entry.items.now (said report))) scratch.old }
 {
-    if kind == THIS {
-        survey_run(ends0, THIS, low, high, scratch, at);
-        return at + 3;
+    match report.kind {
+        Kind::This => {
+            let run = items_of(first.ends, report);
+            Report::this(run.lower, run.upper).write(scratch, at);
+            at + 3
+        }
+        Kind::That => {
+            let run = items_of(second.ends, report);
+            Report::that(run.lower, run.upper).write(scratch, at);
+            at + 3
+        }
+        Kind::Both => {
+            let one = chunk::child_range(first.ends, report.low);
+            let two = chunk::child_range(second.ends, report.high);
+            let start = Spot {
+                lower0: one.lower,
+                lower1: two.lower,
+            };
+            survey_pair(
+                &first.items[..one.upper],
+                &second.items[..two.upper],
+                start,
+                scratch,
+                at,
+            )
+        }
     }
-    if kind == THAT {
-        survey_run(ends1, THAT, low, high, scratch, at);
-        return at + 3;
-    }
-    let one = chunk::child_range(ends0, low);
-    let two = chunk::child_range(ends1, high);
-    survey_pair(
-        items0, one.lower, one.upper, items1, two.lower, two.upper, scratch, at,
-    )
 }
 
 // Surveys a layer: for each of the `count` reports at `from`, what it becomes, from `start` on. Answers the place past them.
 fn survey(
-    ends0: &[u64],
-    items0: &[u64],
-    ends1: &[u64],
-    items1: &[u64],
+    first: Layer,
+    second: Layer,
     scratch: &mut [u64],
     from: usize,
     count: usize,
     start: usize,
 ) -> usize
-    requires { SurveyRoom ends0.now items0.now ends1.now items1.now scratch.old from count start }
-    ensures value { result ≡ start + 3 * length (surveyed ends0.now items0.now ends1.now items1.now (reports_at scratch.old from count)) }
-    ensures scratch_after { scratch.new ≡ placed start (report_words (surveyed ends0.now items0.now ends1.now items1.now (reports_at scratch.old from count))) scratch.old }
+    requires { SurveyRoom first.ends.now first.items.now second.ends.now second.items.now scratch.old from count start }
+    ensures value { result ≡ start + 3 * length (surveyed first.entry.ends.now first.entry.items.now second.entry.ends.now second.entry.items.now (reports_at scratch.old from count)) }
+    ensures scratch_after { scratch.new ≡ placed start (report_words (surveyed first.entry.ends.now first.entry.items.now second.entry.ends.now second.entry.items.now (reports_at scratch.old from count))) scratch.old }
 {
     let mut at = start;
-    let mut i = from;
-    let mut n = 0;
-    while n < count {
-        let kind = scratch[i];
-        let low = scratch[i + 1] as usize;
-        let high = scratch[i + 2] as usize;
-        at = survey_one(ends0, items0, ends1, items1, kind, low, high, scratch, at);
-        i += 3;
-        n += 1;
+    // Kept: no row lends the reports, since the scratch that they stand in is written; with `split_at_mut` the places of this layer's reports would be told from another start than the layers' own.
+    for n in 0..count {
+        let report = Report::read(scratch, from + 3 * n);
+        at = survey_one(first, second, report, scratch, at);
     }
     at
 }
@@ -278,53 +273,26 @@ struct Surveys {
 }
 
 // Surveys the three layers of two chunks, each layer by the reports of the one above.
-fn survey_layers(
-    words0: &[u64],
-    found0: chunk::Contents,
-    words1: &[u64],
-    found1: chunk::Contents,
-    scratch: &mut [u64],
-) -> Surveys
-    requires { LayersRoom words0.now found0 words1.now found1 scratch.old }
-    ensures { LayersSurveyed (entries words0.now) (entries words1.now) scratch.old scratch.new result }
+fn survey_layers(first: Chunk, second: Chunk, scratch: &mut [u64]) -> Surveys
+    requires { LayersRoom first.words.now first.contents second.words.now second.contents scratch.old }
+    ensures { LayersSurveyed (entries first.entry.words.now) (entries second.entry.words.now) scratch.old scratch.new result }
 {
-    let key0 = found0.keys_at;
-    let val_end0 = found0.val_ends_at;
-    let val0 = found0.vals_at;
-    let time_end0 = found0.time_ends_at;
-    let time0 = found0.times_at;
-    let end0 = found0.diff_ends_at;
-    let key1 = found1.keys_at;
-    let val_end1 = found1.val_ends_at;
-    let val1 = found1.vals_at;
-    let time_end1 = found1.time_ends_at;
-    let time1 = found1.times_at;
-    let end1 = found1.diff_ends_at;
-    let keys = survey_pair(
-        &words0[key0..val_end0],
-        0,
-        found0.nk,
-        &words1[key1..val_end1],
-        0,
-        found1.nk,
-        scratch,
-        0,
-    );
+    let front = Spot {
+        lower0: 0,
+        lower1: 0,
+    };
+    let keys = survey_pair(first.keys(), second.keys(), front, scratch, 0);
     let vals = survey(
-        &words0[val_end0..val0],
-        &words0[val0..time_end0],
-        &words1[val_end1..val1],
-        &words1[val1..time_end1],
+        Layer::vals(first),
+        Layer::vals(second),
         scratch,
         0,
         keys / 3,
         keys,
     );
     let times = survey(
-        &words0[time_end0..time0],
-        &words0[time0..end0],
-        &words1[time_end1..time1],
-        &words1[time1..end1],
+        Layer::times(first),
+        Layer::times(second),
         scratch,
         keys,
         (vals - keys) / 3,
@@ -334,7 +302,7 @@ fn survey_layers(
 }
 
 // A place in a chunk: the indices of a key, of a value and of a time.
-#[derive(Clone, Copy)]
+#[derive(Clone, Copy, PartialEq, Eq)]
 pub struct Cursor {
     pub k: usize,
     pub v: usize,
@@ -345,15 +313,8 @@ pub struct Cursor {
 #[derive(Clone, Copy)]
 pub enum Survivor {
     Nobody,
-    First(usize, usize, usize),
-    Second(usize, usize, usize),
-}
-
-// What a merge answers: 0 with its survivor, or a refusal.
-#[derive(Clone, Copy)]
-pub struct Joined {
-    pub number: u64,
-    pub survivor: Survivor,
+    First(Cursor),
+    Second(Cursor),
 }
 
 // Where the reports of each layer stand in scratch: the keys' from 0 on, and how many of each there are.
@@ -367,40 +328,24 @@ struct Spans {
 }
 
 // Whether the cursor is a time index of the chunk with its own value and key.
-fn sound_at(words: &[u64], found: chunk::Contents, cursor: Cursor) -> bool
-    requires { Read words.now found }
-    ensures { result ≡ sound_at (entries words.now) (place_of cursor) }
+fn sound_at(chunk: Chunk, cursor: Cursor) -> bool
+    requires { Read chunk.words.now chunk.contents }
+    ensures { result ≡ sound_at (entries chunk.entry.words.now) (place_of cursor) }
 {
-    let t = cursor.t;
-    if found.nt <= t {
-        return false;
-    }
-    let place = pair::place_at(words, found, t);
-    if place.v != cursor.v {
-        return false;
-    }
-    place.k == cursor.k
+    cursor.t < chunk.contents.nt && pair::place_at(chunk, cursor.t) == cursor
 }
 
 // Writes the chunk of the entries from the cursor on: one report for each layer, of all that is left there. No report names the second input.
-fn write_suffix(words: &[u64], found: chunk::Contents, cursor: Cursor, out: &mut [u64])
-    requires { Ready words.now found cursor out.old }
-    ensures { out.new ≡ over (chunk_of (drop cursor.t (entries words.now))) out.old }
+fn write_suffix(chunk: Chunk, cursor: Cursor, out: &mut [u64])
+    requires { Ready chunk.words.now chunk.contents cursor out.old }
+    ensures { out.new ≡ over (chunk_of (drop cursor.t (entries chunk.entry.words.now))) out.old }
 {
-    let keys = cursor.k as u64;
-    let vals = cursor.v as u64;
-    let times = cursor.t as u64;
-    let reports = [
-        THIS,
-        keys,
-        found.nk as u64,
-        THIS,
-        vals,
-        found.nv as u64,
-        THIS,
-        times,
-        found.nt as u64,
-    ];
+    let Cursor { k, v, t } = cursor;
+    let Contents { nk, nv, nt, .. } = chunk.contents;
+    let mut reports = [0; 9];
+    Report::this(k, nk).write(&mut reports, 0);
+    Report::this(v, nv).write(&mut reports, 3);
+    Report::this(t, nt).write(&mut reports, 6);
     let spans = Spans {
         keys: 1,
         vals_at: 3,
@@ -408,73 +353,60 @@ fn write_suffix(words: &[u64], found: chunk::Contents, cursor: Cursor, out: &mut
         times_at: 6,
         times: 1,
     };
-    weft::write_from_surveys(words, found, words, found, &reports, spans, out);
+    weft::write_from_surveys(chunk, chunk, &reports, spans, out);
 }
 
-// The settled chunk of the records from the cursor's time on: 5, 6, 7, 8 or 13 as document 01 orders them, or 0 with `out` written.
-pub fn suffix_chunk(cursor: Cursor, words: &[u64], out: &mut [u64]) -> u64
-    ensures value { result ≡ suffix_number (place_of cursor) words.now out.old }
+// The settled chunk of the records from the cursor's time on: refused as document 01 orders it, by 5, 6, 7, 8 or 13, or `out` written.
+pub fn suffix_chunk(cursor: Cursor, words: &[u64], out: &mut [u64]) -> Result<(), Refusal>
+    ensures value { answer_number result ≡ suffix_number (place_of cursor) words.now out.old }
     ensures out_after { out.new ≡ suffix_out (place_of cursor) words.now out.old }
 {
-    let checked = chunk::check(words);
-    if checked.number != 0 {
-        return 5;
+    let chunk = chunk::filled(words)?;
+    if !sound_at(chunk, cursor) {
+        return Err(Refusal::BadCursor);
     }
-    if !checked.settled {
-        return 6;
+    if out.len() < chunk.contents.size {
+        return Err(Refusal::OutputShort);
     }
-    let found = checked.contents;
-    if found.nt == 0 {
-        return 7;
-    }
-    if !sound_at(words, found, cursor) {
-        return 8;
-    }
-    if out.len() < found.size {
-        return 13;
-    }
-    write_suffix(words, found, cursor, out);
-    0
+    write_suffix(chunk, cursor, out);
+    Ok(())
 }
 
-// Merges two settled chunks up to the smaller of their last positions: 5, 6 or 7 for the first, the same for the second, 2, 12, 13 or 14, or 0 with
-// `out` written and the survivor. Scratch is the call's own once nothing before 14 refuses.
-pub fn merge_pair(words0: &[u64], words1: &[u64], scratch: &mut [u64], out: &mut [u64]) -> Joined
-    ensures { MergeAnswers words0.now words1.now scratch.old out.old result out.new scratch.new }
+// Merges two settled chunks up to the smaller of their last positions: refused by 5, 6 or 7 for the first, the same for the second, 2, 12, 13 or 14,
+// or `out` written and the survivor. Scratch is the call's own once nothing before 14 refuses.
+pub fn merge_pair(
+    words0: &[u64],
+    words1: &[u64],
+    scratch: &mut [u64],
+    out: &mut [u64],
+) -> Result<Survivor, Refusal>
+    ensures { MergeAnswers words0.now words1.now scratch.old out.old (joined_of result) out.new scratch.new }
 {
-    let first = chunk::check(words0);
-    let one = pair::input_refusal(first);
-    if one != 0 {
-        return pair::refused(one);
-    }
-    let second = chunk::check(words1);
-    let two = pair::input_refusal(second);
-    if two != 0 {
-        return pair::refused(two);
-    }
-    let found0 = first.contents;
-    let found1 = second.contents;
-    let both = pair::room_refusal(found0, found1, scratch.len(), out.len());
-    if both != 0 {
-        return pair::refused(both);
-    }
-    pair::merge_settled(words0, found0, words1, found1, scratch, out)
+    let first = chunk::filled(words0)?;
+    let second = chunk::filled(words1)?;
+    pair::admit(first.contents, second.contents, scratch.len(), out.len())?;
+    pair::merge_settled(first, second, scratch, out)
 }
 
 // The part of a body from `low` to `high`, which is excluded; the empty part where that range isn't in it.
 fn part_of(body: &[u64], low: usize, high: usize) -> &[u64]
     ensures { result.now ≡ part_of body.now low high }
 {
-    if body.len() < high {
-        return &body[0..0];
+    body.get(low..high).unwrap_or(&[])
+}
+
+// The item of both inputs that stands at `low` in the first and at `high` in the second, as a part of the first; the empty part where either isn't there.
+fn shared_of<'a>(first: &'a [u64], low: usize, second: &[u64], high: usize) -> &'a [u64]
+    ensures { result.now ≡ run_of 2 low high first.now second.now }
+{
+    if second.len() <= high || first.len() <= low {
+        return &[];
     }
-    if high < low {
-        return &body[0..0];
-    }
-    &body[low..high]
+    &first[low..low + 1]
 }
 
 // The run that a report names, as a part of the input it names; a report that can't be served gets the empty part.
+// Kept: the kind is a word, since a caller's report is three words of any value, and one of another kind names nothing (document 01, "the run named by a report").
 pub fn run_of<'a>(
     kind: u64,
     low: usize,
@@ -484,20 +416,10 @@ pub fn run_of<'a>(
 ) -> &'a [u64]
     ensures { result.now ≡ run_of kind low high first.now second.now }
 {
-    if kind == THIS {
-        return part_of(first, low, high);
+    match kind {
+        0 => part_of(first, low, high),
+        1 => part_of(second, low, high),
+        2 => shared_of(first, low, second, high),
+        _ => &[],
     }
-    if kind == THAT {
-        return part_of(second, low, high);
-    }
-    if kind != BOTH {
-        return &first[0..0];
-    }
-    if second.len() <= high {
-        return &first[0..0];
-    }
-    if first.len() <= low {
-        return &first[0..0];
-    }
-    part_of(first, low, low + 1)
 }

@@ -23,7 +23,6 @@ pub mod Surviving
 pub mod Overflowing
 pub mod Lying
 pub mod Neighbours
-pub mod Signs
 pub mod Rows
 pub mod Bodies
 pub mod Groupings

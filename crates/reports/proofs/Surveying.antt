@@ -39,18 +39,6 @@ module _ (e0 x0 e1 x1 : List ℕ) (k l h : ℕ) (s : List ℕ) (at : ℕ) where
   unfolding survey_of report_words
   one_that s' z p = (rw z refl, rw z p)
 
-  pub named-this : k ≡ 0 → OneRoom e0 x0 e1 x1 (report k l h) s at → ((l < h) × (h ≤ length e0)) × (at + 3 ≤ length s)
-  named-this z o = rest (rw z at o.named) (rw z at o.room)
-    where
-      rest : (l < h) × (h ≤ length e0) → at + 3 * 1 ≤ length s → ((l < h) × (h ≤ length e0)) × (at + 3 ≤ length s)
-      rest a b = (a, b)
-
-  pub named-that : k ≡ 1 → OneRoom e0 x0 e1 x1 (report k l h) s at → ((l < h) × (h ≤ length e1)) × (at + 3 ≤ length s)
-  named-that z o = rest (rw z at o.named) (rw z at o.room)
-    where
-      rest : (l < h) × (h ≤ length e1) → at + 3 * 1 ≤ length s → ((l < h) × (h ≤ length e1)) × (at + 3 ≤ length s)
-      rest a b = (a, b)
-
   module _ (a : k ≡ 0 → ⊥) (b : k ≡ 1 → ⊥) (o : OneRoom e0 x0 e1 x1 (report k l h) s at) (r0 r1 : Range) (c0 : r0 ≡ child_range e0 l) (c1 : r1 ≡ child_range e1 h) where
     in_both : (l < length e0) × (h < length e1)
     in_both = rw (report-both k l h a b) at o.named

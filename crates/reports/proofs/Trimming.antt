@@ -11,7 +11,6 @@ use borrow.Author.Tests.{eq-eqb, eqb-true, ltb-true, ltb-false}
 use Rattle.laws.proofs.Tests.{by_test, and_left, and_both, true-not-false, or-false}
 use Rattle.chunk.specs.Entry.{every}
 use Rattle.reports.specs.Survey.{Report, this, that, both}
-use Rattle.reports.specs.Scratch.{report}
 use Rattle.reports.specs.Tail.{only_this, only_that, trimmed, trailing}
 
 -- all of them runs of one input
@@ -135,11 +134,6 @@ abbrev pub kind_of : Report → ℕ
 kind_of (this l h) = 0
 kind_of (that l h) = 1
 kind_of (both i j) = 2
-
-pub kind_report : (k l h : ℕ) → k ≤ 2 → kind_of (report k l h) ≡ k
-kind_report zero l h m = refl
-kind_report (suc zero) l h m = refl
-kind_report (suc (suc k)) l h m = omega arith
 
 -- of that kind, every one
 abbrev pub of_kind : ℕ → List Report → Bool

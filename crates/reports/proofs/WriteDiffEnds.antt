@@ -1,5 +1,5 @@
 -- The diff ends that are written are those of the entries that the reports of times name, where both inputs are settled.
-use Prim.Native.Nat.{ℕ, zero, suc, ◌+◌, ◌-◌, ◌^◌, ◌%◌, ◌<◌, ◌≤◌}
+use Prim.Native.Nat.{ℕ, zero, suc, ◌+◌, ◌-◌, ◌^◌, ◌<◌, ◌≤◌}
 use mathlib.Core.Path.{◌≡◌, refl, sym, ◌∙◌, ap}
 use mathlib.Core.Bool.{true}
 use mathlib.Core.List.{List, [], ◌∷◌, ◌++◌, map-append}
@@ -14,7 +14,6 @@ use Rattle.laws.proofs.Tests.{and_both}
 use Rattle.laws.proofs.Tries.{rises_tail}
 use Rattle.chunk.specs.Entry.{Entry, stands, keep, every}
 use Rattle.chunk.specs.Bodies.{diffs, diff_ends, diff_ends_from}
-use Rattle.chunk.specs.Sums.{plus}
 use Rattle.chunk.specs.Words.{limit, rises, rises_from}
 use Rattle.meld.specs.Copy.{shifted, shifted_all}
 use Rattle.meld.proofs.Append.{raised, diff_ends-append}
@@ -132,11 +131,9 @@ one_end e base = Rattle.laws.proofs.Tests.by_test (stands e)
     (λ h. let q : 0 + base ≡ base + 0 = omega arith in rw (h, q))
 
 module _ (a b : List Entry) (sa : every stands a ≡ true) (sb : every stands b ≡ true)
-    (words0 : (i : ℕ) → get_or (diffs a) i 0 < 2 ^ 64) (words1 : (i : ℕ) → get_or (diffs b) i 0 < 2 ^ 64)
-    (adds : (m n : ℕ) → m < 2 ^ 64 → n < 2 ^ 64 → plus m n ≡ (m + n) % 2 ^ 64)
     (few0 : length a ≤ limit) (few1 : length b ≤ limit) where
   diffs_are : (r : Report) → Serves (length a) (length b) r → diffs (entries_of a b r) ≡ diff_of (diffs a) (diffs b) r
-  diffs_are r v = diffs_of a b sa sb words0 words1 adds r v
+  diffs_are r v = diffs_of a b sa sb r v
 
   single : (i j : ℕ) → i < length a → j < length b → entries_of a b (both i j) ≡ summed (get_or a i no_entry) (get_or b j no_entry) ∷ []
   single i j h k = rw (drop-cons a i no_entry h, drop-cons b j no_entry k)

@@ -1,5 +1,5 @@
 -- What reports of times name, body by body: the times and the diffs of the entries are those that are written.
-use Prim.Native.Nat.{ℕ, zero, suc, ◌+◌, ◌-◌, ◌^◌, ◌%◌, ◌<◌}
+use Prim.Native.Nat.{ℕ, zero, suc, ◌-◌, ◌<◌}
 use mathlib.Core.Path.{◌≡◌, refl, sym, ◌∙◌, ap}
 use mathlib.Core.Bool.{Bool, true, false}
 use mathlib.Core.List.{List, [], ◌∷◌, ◌++◌, map}
@@ -81,17 +81,15 @@ diff-at es i h =
     sym (get_or-map (λ (e : Entry). e.diff) es i (record { key = 0; val = 0; time = 0; diff = 0 }))
     ∙ ap (λ (d : List ℕ). get_or d i 0) (sym (diffs_all es h))
 
-module _ (a b : List Entry) (sa : every stands a ≡ true) (sb : every stands b ≡ true)
-    (words0 : (i : ℕ) → get_or (diffs a) i 0 < 2 ^ 64) (words1 : (i : ℕ) → get_or (diffs b) i 0 < 2 ^ 64)
-    (adds : (m n : ℕ) → m < 2 ^ 64 → n < 2 ^ 64 → plus m n ≡ (m + n) % 2 ^ 64) where
-  shared_diff : (i j : ℕ) → i < length a → j < length b → diffs (entries_of a b (both i j)) ≡ diff_list ((get_or (diffs a) i 0 + get_or (diffs b) j 0) % 2 ^ 64)
+module _ (a b : List Entry) (sa : every stands a ≡ true) (sb : every stands b ≡ true) where
+  shared_diff : (i j : ℕ) → i < length a → j < length b → diffs (entries_of a b (both i j)) ≡ diff_list (plus (get_or (diffs a) i 0) (get_or (diffs b) j 0))
   shared_diff i j h k =
       let d : Entry = record { key = 0; val = 0; time = 0; diff = 0 } in
       let x : Entry = get_or a i d in
       let y : Entry = get_or b j d in
       rw (drop-cons a i d h, drop-cons b j d k)
       (one_diff x.key x.val x.time (plus x.diff y.diff)
-      ∙ ap diff_list ((λ t. plus (diff-at a i sa t) (diff-at b j sb t)) ∙ adds (get_or (diffs a) i 0) (get_or (diffs b) j 0) (words0 i) (words1 j)))
+      ∙ ap diff_list (λ t. plus (diff-at a i sa t) (diff-at b j sb t)))
 
   pub diffs_of : (r : Report) → Serves (length a) (length b) r → diffs (entries_of a b r) ≡ diff_of (diffs a) (diffs b) r
   diffs_of (this l h) v = diffs_part (h - l) l a sa

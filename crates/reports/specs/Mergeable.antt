@@ -1,11 +1,10 @@
 -- The parts that merge is made of (document 01, "Merge"): two settled chunks that have something, and the runs that their surveys
 -- end with.
-use Rattle.std.specs.Prelude.{ℕ, ◌+◌, ◌-◌, ◌*◌, ◌/◌, ◌<◌, ◌≤◌, List, [], ◌∷◌, length}
+use Rattle.std.specs.Prelude.{ℕ, ◌+◌, ◌-◌, ◌*◌, ◌<◌, ◌≤◌, List, [], ◌∷◌, length}
 use Rattle.chunk.specs.Entry.{Entry}
 use Rattle.chunk.specs.Words.{entries, limit}
 use Rattle.chunk.specs.declared.Contents.{Contents}
 use Rattle.reports.specs.Survey.{Report, this, that, both}
-use Rattle.reports.specs.Scratch.{reports_at}
 use Rattle.reports.specs.Read.{Read}
 use Rattle.reports.specs.Whole.{Whole}
 
@@ -26,10 +25,8 @@ StartsIn es fs (that l h ∷ rs) = l < length fs
 StartsIn es fs (both i j ∷ rs) = ⊥
 StartsIn es fs [] = Unit {0}
 
--- the runs that the times end with
-pub record Trailing (w0 : List ℕ) (c0 : Contents) (w1 : List ℕ) (c1 : Contents) (s : List ℕ) (at end : ℕ) : Type 0 where
+-- the runs that the times of two well formed chunks end with
+pub record Trailing (w0 : List ℕ) (c0 : Contents) (w1 : List ℕ) (c1 : Contents) (rs : List Report) : Type 0 where
   pub first : Read w0 c0
   pub second : Read w1 c1
-  pub stand : end ≤ length s
-  pub whole : end ≤ at + 3 * ((end - at) / 3)
-  pub starts : StartsIn (entries w0) (entries w1) (reports_at s at ((end - at) / 3))
+  pub starts : StartsIn (entries w0) (entries w1) rs

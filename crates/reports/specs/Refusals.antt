@@ -1,7 +1,6 @@
 -- How merge refuses (document 01, "Merge"): refusals that leave the scratch as it was, and the tests.
-use Rattle.std.specs.Prelude.{ℕ, ◌+◌, ◌-◌, ◌*◌, ◌≤◌, cond, ◌≡◌, ltb, eqb}
+use Rattle.std.specs.Prelude.{ℕ, ◌+◌, ◌-◌, ◌*◌, ◌≤◌, cond, ◌≡◌, ltb}
 use Rattle.chunk.specs.Words.{limit}
-use Rattle.chunk.specs.declared.Checked.{Checked}
 use Rattle.chunk.specs.declared.Contents.{Contents}
 
 -- a refusal other than 14
@@ -9,11 +8,7 @@ pub record Refused (n : ℕ) : Type 0 where
   pub not_accepted : n ≡ 0 → ⊥
   pub not_overflow : n ≡ 14 → ⊥
 
--- ---- the tests, as the call makes them of what a check found
-
--- 5, 6 or 7, or 0 where a chunk is taken
-unfoldable pub input_of : Checked → ℕ
-input_of c = cond (eqb c.number 0) (cond c.settled (cond (eqb c.contents.nt 0) 7 0) 6) 5
+-- ---- the tests of two chunks together, as the call makes them of their contents
 
 -- 2, 12 or 13, or 0
 unfoldable pub room_of : Contents → Contents → ℕ → ℕ → ℕ

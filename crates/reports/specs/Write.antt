@@ -1,12 +1,13 @@
 -- What reports name, and when the reports of one layer lie under those of the layer above (document 01, "Merge"; "each layer is written into
 -- its own part of the output"): the layers are written from them, runs of one input as ranges.
-use Rattle.std.specs.Prelude.{ℕ, zero, suc, ◌+◌, ◌-◌, ◌*◌, ◌^◌, ◌%◌, ◌<◌, ◌≤◌, Bool, true, cond, ◌≡◌, List, [], ◌∷◌, ◌++◌, ltb, length, get_or, take, drop}
+use Rattle.std.specs.Prelude.{ℕ, zero, suc, ◌+◌, ◌-◌, ◌^◌, ◌%◌, ◌<◌, ◌≤◌, Bool, true, cond, ◌≡◌, List, [], ◌∷◌, ◌++◌, ltb, length, get_or, take, drop}
 use Rattle.chunk.specs.Entry.{Entry}
+use Rattle.chunk.specs.Sums.{plus}
 use Rattle.chunk.specs.Words.{limit, rises}
 use Rattle.chunk.specs.Contents.{start_of}
 use Rattle.meld.specs.Copy.{shifted_all}
 use Rattle.reports.specs.Survey.{Report, this, that, both}
-use Rattle.reports.specs.Scratch.{placed, report_at, reports_at}
+use Rattle.reports.specs.Scratch.{placed}
 use Rattle.reports.specs.Theorems.{summed}
 
 -- the items that a report names: a run of one input, or the shared item
@@ -100,17 +101,15 @@ abbrev pub AllServe : ℕ → ℕ → List Report → Type 0
 AllServe n m [] = Unit {0}
 AllServe n m (r ∷ rs) = Serves n m r × AllServe n m rs
 
--- a report stands at a place of the scratch, its range is there, and so is the room for its items
-pub record RunRoom (n m : ℕ) (s : List ℕ) (p at room : ℕ) : Type 0 where
-  pub stands : p + 3 ≤ length s
-  pub serves : Serves n m (report_at s p)
-  pub fits : at + width (report_at s p) ≤ room
+-- the range that a report names is there, and so is the room for its items
+pub record RunRoom (n m : ℕ) (r : Report) (at room : ℕ) : Type 0 where
+  pub serves : Serves n m r
+  pub fits : at + width r ≤ room
 
 -- the same of several reports
-pub record RunsRoom (n m : ℕ) (s : List ℕ) (p count at room : ℕ) : Type 0 where
-  pub stands : p + 3 * count ≤ length s
-  pub serves : AllServe n m (reports_at s p count)
-  pub fits : at + widths (reports_at s p count) ≤ room
+pub record RunsRoom (n m : ℕ) (rs : List Report) (at room : ℕ) : Type 0 where
+  pub serves : AllServe n m rs
+  pub fits : at + widths rs ≤ room
 
 -- ---- the ends of the lists that reports name
 
@@ -148,9 +147,9 @@ abbrev pub wrapped : ℕ → ℕ → ℕ
 wrapped base x = (base + (2 ^ 64 - x)) % 2 ^ 64
 
 -- ends that follow one another, where they rise: the last is as far above the first as it stands past it
-pub record InRow (ends : List ℕ) (from to : ℕ) : Type 0 where
-  pub some : from < to
-  pub last : get_or ends (to - 1) 0 ≡ get_or ends from 0 + (to - 1 - from)
+pub record InRow (ends : List ℕ) : Type 0 where
+  pub some : 0 < length ends
+  pub last : get_or ends (length ends - 1) 0 ≡ get_or ends 0 0 + (length ends - 1)
 
 -- the ends of the lists of one report: those before the last list shifted by a constant, and the last one where its items end
 unfoldable pub list_ends : List ℕ → List ℕ → Report → ℕ → ℕ → ℕ → List ℕ
@@ -184,32 +183,28 @@ abbrev pub Upward : List Report → Type 0
 Upward [] = Unit {0}
 Upward (r ∷ rs) = Rising r × Upward rs
 
--- so many reports in the scratch, few items in all
-pub record Counting (s : List ℕ) (p count base : ℕ) : Type 0 where
-  pub stands : p + 3 * count ≤ length s
-  pub upward : Upward (reports_at s p count)
-  pub small : base + widths (reports_at s p count) ≤ limit
+-- ranges that go up, few items in all
+pub record Counting (rs : List Report) (base : ℕ) : Type 0 where
+  pub upward : Upward rs
+  pub small : base + widths rs ≤ limit
 
--- a report of lists at p, the first report of its items at q, and room for its ends
-pub record ListRoom (ends0 ends1 s : List ℕ) (p q base next at room : ℕ) : Type 0 where
-  pub stands : p + 3 ≤ length s
-  pub items : q + 3 ≤ length s
-  pub serves : Serves (length ends0) (length ends1) (report_at s p)
+-- a report of lists that are there, and room for its ends
+pub record ListRoom (ends0 ends1 : List ℕ) (r : Report) (base next at room : ℕ) : Type 0 where
+  pub serves : Serves (length ends0) (length ends1) r
   pub rise0 : rises ends0 ≡ true
   pub rise1 : rises ends1 ≡ true
-  pub some : 1 ≤ width (report_at s p)
-  pub fits : at + width (report_at s p) ≤ room
+  pub some : 1 ≤ width r
+  pub fits : at + width r ≤ room
   pub small : next ≤ limit
   pub grows : base ≤ next
 
--- reports of lists from p on, of items from q on, and room for the ends
-pub record EndsRoom (ends0 ends1 s : List ℕ) (p lists q items base at room : ℕ) : Type 0 where
-  pub stands : p + 3 * lists ≤ length s
+-- reports of lists, those of their items, and room for the ends
+pub record EndsRoom (ends0 ends1 : List ℕ) (ls is : List Report) (base at room : ℕ) : Type 0 where
   pub rise0 : rises ends0 ≡ true
   pub rise1 : rises ends1 ≡ true
-  pub found : Found ends0 ends1 (reports_at s p lists) (reports_at s q items)
-  pub counting : Counting s q items base
-  pub fits : at + widths (reports_at s p lists) ≤ room
+  pub found : Found ends0 ends1 ls is
+  pub counting : Counting is base
+  pub fits : at + widths ls ≤ room
 
 -- ---- diffs
 
@@ -222,7 +217,7 @@ diff_list (suc n) = suc n ∷ []
 abbrev pub diff_of : List ℕ → List ℕ → Report → List ℕ
 diff_of a b (this l h) = named a b (this l h)
 diff_of a b (that l h) = named a b (that l h)
-diff_of a b (both i j) = diff_list ((get_or a i 0 + get_or b j 0) % 2 ^ 64)
+diff_of a b (both i j) = diff_list (plus (get_or a i 0) (get_or b j 0))
 
 -- the diffs of several
 unfoldable pub diffs_by : List ℕ → List ℕ → List Report → List ℕ
@@ -242,14 +237,14 @@ AllSome [] = Unit {0}
 AllSome (r ∷ rs) = (1 ≤ width r) × AllSome rs
 
 -- reports of times with an end for each diff of both inputs, few diffs in all, and room for the ends
-pub record DiffsRoom (ends0 ends1 a b s : List ℕ) (p count base at room : ℕ) : Type 0 where
-  pub runs : RunsRoom (length a) (length b) s p count at room
-  pub some : AllSome (reports_at s p count)
+pub record DiffsRoom (ends0 ends1 a b : List ℕ) (rs : List Report) (base at room : ℕ) : Type 0 where
+  pub runs : RunsRoom (length a) (length b) rs at room
+  pub some : AllSome rs
   pub long0 : length ends0 ≡ length a
   pub long1 : length ends1 ≡ length b
   pub rise0 : rises ends0 ≡ true
   pub rise1 : rises ends1 ≡ true
-  pub small : base + widths (reports_at s p count) ≤ limit
+  pub small : base + widths rs ≤ limit
 
 -- a layer in its two places: the ends of the lists that `ls` name, and the items that `is` name
 abbrev pub layer_by : List ℕ → List ℕ → List ℕ → List ℕ → List Report → List Report → ℕ → ℕ → List ℕ → List ℕ

@@ -12,12 +12,22 @@ use Rattle.chunk.specs.Bodies.{times, chunk_of}
 use Rattle.chunk.specs.Words.{over}
 use Rattle.chunk.specs.Refusal.{written}
 use Rattle.laws.proofs.Tests.{by_test}
-use Rattle.retain.specs.declared.Corners.{Corners}
+use Rattle.std.specs.Prelude.{Option, None, Some, Ok, Err}
+use Rattle.chunk.specs.declared.Refusal.TheVariants.{TooManyCorners}
+use Rattle.retain.specs.declared.Frontier.{Frontier}
 use Rattle.retain.specs.declared.Verdict.{Verdict}
 use Rattle.retain.specs.Frontier.{is_open, most}
 use Rattle.retain.specs.Extract.{kept_of, shipped_of, frontier_of, verdict}
-use Rattle.retain.specs.Found.{corners_of, corners_as}
-use Rattle.retain.specs.Answer.{verdict_as, verdict_by, refused_by, extracted_as, Parted}
+use Rattle.retain.specs.Found.{corners_of, frontier_with}
+use Rattle.retain.specs.Answer.{verdict_as, verdict_by, extracted_of, Parted}
+
+none-some : (f : Frontier) → ◌≡◌ {A = Option Frontier} None (Some f) → ⊥
+none-some f h = cc
+
+-- what is there, or f
+abbrev got : Frontier → Option Frontier → Frontier
+got f None = f
+got f (Some g) = g
 
 pub keep-times : (q : ℕ → Bool) (es : List Entry) → times (keep (λ (e : Entry). q e.time) es) ≡ keep q (times es)
 unfolding keep
@@ -45,27 +55,25 @@ module _ (corners : List ℕ) (es : List Entry) where
       let k : eqb kept 0 ≡ eqb (length (kept_of corners es)) 0 = ap (λ (x : ℕ). eqb x 0) hk in
       by_test (eqb (length (kept_of corners es)) 0) (λ g. simp (e, s, k, g)) (λ g. simp (e, s, k, g)))
 
-  fits_is : (l : List ℕ) → (corners_of l).fits ≡ leb (length l) most
-  fits_is l = by_test (leb (length l) most) (λ h. simp h) (λ h. simp h)
-
-  pub too_many : (r : Corners) (kept shipped : List ℕ) → r ≡ corners_of (frontier_of corners es) → r.fits ≡ false → Parted (refused_by 10) kept shipped corners es kept shipped
-  unfolding extracted_as written
-  too_many r kept shipped e h =
-      let b : leb (length (frontier_of corners es)) most ≡ false = sym (ap (λ (x : Corners). x.fits) e ∙ fits_is (frontier_of corners es)) ∙ h in
+  pub too_long : (kept shipped : List ℕ) → None ≡ corners_of (frontier_of corners es) → Parted (Err TooManyCorners) kept shipped corners es kept shipped
+  unfolding written
+  too_long kept shipped e =
+      let b : leb (length (frontier_of corners es)) most ≡ false = by_test (leb (length (frontier_of corners es)) most) (λ h. absurd (none-some (frontier_with (frontier_of corners es)) (simp h at e))) (λ h. h) in
       let m : ltb most (length (frontier_of corners es)) ≡ true = lt-ltb most (length (frontier_of corners es)) (leb-false (length (frontier_of corners es)) most b) in
-      record { answer = simp m; keeps = simp m; ships = simp m }
+      record { number = simp m; answer = tt; keeps = simp m; ships = simp m }
 
-  pub taken : (r : Corners) (opened all : ℕ) (v : Verdict) (kept shipped kept_after shipped_after : List ℕ)
-      → r ≡ corners_of (frontier_of corners es) → r.fits ≡ true → opened ≡ length (kept_of corners es) → all ≡ length es → v ≡ verdict_by opened all
+  pub taken : (f : Frontier) (opened all : ℕ) (v : Verdict) (kept shipped kept_after shipped_after : List ℕ)
+      → Some f ≡ corners_of (frontier_of corners es) → opened ≡ length (kept_of corners es) → all ≡ length es → v ≡ verdict_by opened all
       → kept_after ≡ over (chunk_of (kept_of corners es)) kept → shipped_after ≡ over (chunk_of (shipped_of corners es)) shipped
-      → Parted (record { number = 0; verdict = v; frontier = r.frontier }) kept_after shipped_after corners es kept shipped
-  unfolding extracted_as written
-  taken r opened all v kept shipped kept_after shipped_after e h ho ha hv hk hs =
-      let b : leb (length (frontier_of corners es)) most ≡ true = sym (ap (λ (x : Corners). x.fits) e ∙ fits_is (frontier_of corners es)) ∙ h in
+      → Parted (Ok (record { verdict = v; frontier = f })) kept_after shipped_after corners es kept shipped
+  unfolding extracted_of written
+  taken f opened all v kept shipped kept_after shipped_after e ho ha hv hk hs =
+      let b : leb (length (frontier_of corners es)) most ≡ true = by_test (leb (length (frontier_of corners es)) most) (λ h. h) (λ h. absurd (none-some f (sym (simp h at e)))) in
       let m : ltb most (length (frontier_of corners es)) ≡ false = le-ltb most (length (frontier_of corners es)) (leb-true (length (frontier_of corners es)) most b) in
-      let f : r ≡ corners_as true (frontier_of corners es) = e ∙ simp b in
+      let q : f ≡ frontier_with (frontier_of corners es) = ap (got f) (simp b at e) in
       record {
-        answer = simp m (λ i. record { number = 0; verdict = (hv ∙ its_verdict opened all ho ha) i; frontier = (ap (λ (x : Corners). x.frontier) f) i });
+        number = simp m;
+        answer = λ i. record { verdict = (hv ∙ its_verdict opened all ho ha) i; frontier = q i };
         keeps = hk ∙ simp m;
         ships = hs ∙ simp m;
       }

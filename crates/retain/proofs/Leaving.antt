@@ -12,9 +12,8 @@ use Rattle.chunk.specs.Contents.{start_of}
 use Rattle.laws.proofs.Lists.{no_length}
 use Rattle.laws.proofs.Tests.{by_test}
 use Rattle.laws.proofs.Picked.{length-count_up}
-use Rattle.retain.specs.Frontier.{ordered}
 use Rattle.laws.specs.Picked.{count_kept, count_up}
-use Rattle.retain.specs.Layers.{pick_at, leaves_out, has_diff, bit, EndsWithin, EndsStep, Ready, Bodies}
+use Rattle.retain.specs.Layers.{pick_at, leaves_out, has_diff, bit, EndsWithin, EndsStep}
 use Rattle.retain.specs.Onward.{Leaving}
 use Rattle.retain.proofs.Counts.{count_in, count_out, count_none, count_add}
 use Rattle.laws.proofs.Stores.{set-sets, set_over, sets-sets, fill_three}
@@ -210,7 +209,3 @@ length-leaves_out m times diff_ends diffs n h =
     let l1 : length (I ++ (E ++ D)) ≡ length I + length (E ++ D) = length-append I (E ++ D) in
     let l2 : length (E ++ D) ≡ length E + length D = length-append E D in
     omega arith
-
--- bodies that belong together, and corners in order, are what the test of a time asks for
-pub ready : (keys val_ends vals time_ends times diff_ends diffs corners : List ℕ) → Bodies keys val_ends vals time_ends times diff_ends diffs → ordered corners ≡ true → Ready corners diff_ends
-ready keys val_ends vals time_ends times diff_ends diffs corners b o = record { steps = b.diffs_step; stairs = o }

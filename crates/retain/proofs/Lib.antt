@@ -13,7 +13,6 @@ pub mod Scan
 pub mod Answers
 pub mod Frontiers
 pub mod Joining
-pub mod Copies
 pub mod Spots
 pub mod Running
 pub mod Whole

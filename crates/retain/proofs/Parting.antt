@@ -1,7 +1,7 @@
 -- Whether a value stays: in a filter by where its diffs end, in an extract, where each time has a diff, by how many of its times are open.
 use Prim.Native.Nat.{ℕ, ◌+◌, ◌-◌, ◌<◌, ◌≤◌}
 use mathlib.Core.Path.{◌≡◌, refl, sym, ◌∙◌, ap}
-use mathlib.Core.Bool.{true}
+use mathlib.Core.Bool.{Bool, true}
 use mathlib.Core.List.{List}
 use native.Mathlib.Omega.{arith}
 use lib.Dec.{ltb}
@@ -10,14 +10,13 @@ use borrow.Author.Tests.{lt-ltb, le-ltb, ltb-true, ltb-false}
 use Rattle.chunk.specs.Contents.{start_of}
 use Rattle.chunk.specs.Entry.{keep}
 use Rattle.laws.proofs.Tests.{by_test}
-use Rattle.retain.specs.declared.Keep.TheVariants.{Open, Shut}
 use Rattle.retain.specs.Frontier.{is_open}
-use Rattle.retain.specs.Keep.{time_kept}
-use Rattle.retain.specs.Layers.{bit, has_diff, EndsStep, AllDiffs}
+use Rattle.retain.specs.Keep.{is_shut, time_passes, time_kept}
+use Rattle.retain.specs.Layers.{bit, has_diff, EndsStep, AllDiffs, ListsLeft}
 use Rattle.laws.specs.Picked.{count_kept, list_kept, RisesTo}
 use Rattle.laws.proofs.Ends.{start_below, start_as, ends_up}
 use Rattle.retain.proofs.Counts.{start_next, start_counts, list_left}
-use Rattle.retain.proofs.Steps.{count-diffs, count_open, count_shut, start_before}
+use Rattle.retain.proofs.Steps.{count-diffs, count_same, open_times, shut_times, start_before}
 
 -- a list that is there has an item, and ends within the items
 pub end_within : (ends : List ℕ) (n i lower : ℕ) → RisesTo ends n → i < length ends → lower ≡ start_of ends i → (lower < get_or ends i 0) × (get_or ends i 0 ≤ n)
@@ -36,26 +35,47 @@ left_over n all =
     (λ k. let h : all ≤ n = ltb-false _ _ k in k ∙ sym (le-ltb 0 (all - n) (omega arith)))
 
 -- a value, so many of whose times are open
-module _ (times corners diff_ends time_ends : List ℕ) (full : AllDiffs times diff_ends) (w : RisesTo time_ends (length times)) (i lower n : ℕ) (h : i < length time_ends)
+module _ (times corners time_ends : List ℕ) (w : RisesTo time_ends (length times)) (i lower n : ℕ) (h : i < length time_ends)
     (p : lower ≡ start_of time_ends i) (q : n ≡ length (keep (is_open corners) (take (get_or time_ends i 0 - lower) (drop lower times)))) where
   fits : lower + (get_or time_ends i 0 - lower) ≤ length times
   fits = let e = end_within time_ends (length times) i lower w h p in omega arith
 
-  each : (k : ℕ) → lower ≤ k → k < lower + (get_or time_ends i 0 - lower) → has_diff diff_ends k ≡ true
-  each k a b = let f = fits in full k (omega arith)
-
-  pub open_left : (b : ℕ) → b ≡ bit (ltb 0 n) → b ≡ bit (list_kept (time_kept Open times corners diff_ends) time_ends i)
+  pub open_left : (b : ℕ) → b ≡ bit (ltb 0 n) → b ≡ bit (list_kept (time_passes (is_open corners) times) time_ends i)
   open_left b e =
-      let m = time_kept Open times corners diff_ends in
-      list_left m time_ends i n b (start_counts m time_ends i lower n p (q ∙ count_open times corners diff_ends lower (get_or time_ends i 0 - lower) fits each)) e
+      let m = time_passes (is_open corners) times in
+      list_left m time_ends i n b (start_counts m time_ends i lower n p (q ∙ open_times corners times lower (get_or time_ends i 0 - lower) fits)) e
 
-  pub shut_left : (b : ℕ) → b ≡ bit (ltb n (get_or time_ends i 0 - lower)) → b ≡ bit (list_kept (time_kept Shut times corners diff_ends) time_ends i)
+  pub shut_left : (b : ℕ) → b ≡ bit (ltb n (get_or time_ends i 0 - lower)) → b ≡ bit (list_kept (time_passes (is_shut corners) times) time_ends i)
   shut_left b e =
-      let m = time_kept Shut times corners diff_ends in
+      let m = time_passes (is_shut corners) times in
       let all = get_or time_ends i 0 - lower in
       list_left m time_ends i (all - n) b
-      (start_counts m time_ends i lower (all - n) p (ap (λ (x : ℕ). all - x) q ∙ count_shut times corners diff_ends lower all fits each))
+      (start_counts m time_ends i lower (all - n) p (ap (λ (x : ℕ). all - x) q ∙ shut_times corners times lower all fits))
       (e ∙ ap bit (left_over n all))
+
+-- lists whose items pass alike by two tests
+module _ (m m' : ℕ → Bool) (ends : List ℕ) (n : ℕ) (w : RisesTo ends n) (f : (k : ℕ) → k < n → m k ≡ m' k) where
+  pub list_same : (i : ℕ) → i < length ends → list_kept m ends i ≡ list_kept m' ends i
+  unfolding list_kept
+  list_same i h =
+      let e = end_within ends n i (start_of ends i) w h refl in
+      ap (ltb 0) (count_same m m' (start_of ends i) (get_or ends i 0 - start_of ends i) (λ k a b. f k (omega (arith, e.0, e.1))))
+
+  pub lists_same : (l c : ℕ) → ListsLeft m ends l c → ListsLeft m' ends l c
+  lists_same l c q =
+      record {
+        lists = q.lists ∙ count_same (list_kept m ends) (list_kept m' ends) 0 (length ends) (λ k a b. list_same k (omega arith));
+        items = q.items ∙ count_same m m' 0 (start_of ends (length ends)) (λ k a b. f k (omega (arith, w.last)));
+      }
+
+-- where each time has a diff, those that pass are those that are kept
+pub settled_lists : (p : ℕ → Bool) (times diff_ends time_ends val_ends : List ℕ) → AllDiffs times diff_ends → RisesTo time_ends (length times) → RisesTo val_ends (length time_ends)
+    → (l c : ℕ) → ListsLeft (list_kept (time_passes p times) time_ends) val_ends l c → ListsLeft (list_kept (time_kept p times diff_ends) time_ends) val_ends l c
+settled_lists p times diff_ends time_ends val_ends full w v l c q =
+    let m = time_passes p times in
+    let m' = time_kept p times diff_ends in
+    lists_same (list_kept m time_ends) (list_kept m' time_ends) val_ends (length time_ends) v
+    (list_same m m' time_ends (length times) w (λ k h. let d : has_diff diff_ends k ≡ true = full k h in simp d)) l c q
 
 -- a value, before which so many diffs end, and so many with it
 module _ (diff_ends time_ends : List ℕ) (steps : EndsStep diff_ends) (w : RisesTo time_ends (length diff_ends)) (i below : ℕ) (h : i < length time_ends) (p : below ≡ start_of diff_ends (start_of time_ends i)) where

@@ -10,10 +10,9 @@ use Rattle.chunk.specs.Bodies.{times, diff_ends_from}
 use Rattle.chunk.specs.Words.{well_formed, entries, time_body, diff_end_body}
 use Rattle.chunk.specs.Contents.{start_of}
 use Rattle.laws.proofs.Tests.{by_test, and_left, and_right}
-use Rattle.retain.specs.declared.Keep.TheVariants.{All, Open, Shut}
 use Rattle.laws.specs.Picked.{pick}
 use Rattle.retain.specs.Layers.{has_diff}
-use Rattle.retain.specs.Keep.{retained_of}
+use Rattle.retain.specs.Keep.{all_times, is_shut, retained_of}
 use Rattle.retain.specs.Frontier.{is_open}
 use Rattle.retain.specs.Extract.{kept_of, shipped_of}
 use Rattle.retain.proofs.Filtered.{has_stands, next_start, next_ends, onto, cut_head, cut_tail}
@@ -53,18 +52,18 @@ pick-times q all (e ∷ es) i d =
 -- ---- what is retained by each rule
 
 module _ (w : List ℕ) (f : well_formed w ≡ true) (corners : List ℕ) where
-  pub retained_all : retained_of All corners w ≡ keep stands (entries w)
+  pub retained_all : retained_of all_times w ≡ keep stands (entries w)
   unfolding retained_of
   retained_all = picks_all (λ (i : ℕ). true) (diff_end_body w) (λ i. refl) (entries w) 0 0 (sym (diff_ends_in_lem w f)) refl
 
   module _ (v : every stands (entries w) ≡ true) where
-    pub retained_open : retained_of Open corners w ≡ kept_of corners (entries w)
+    pub retained_open : retained_of (is_open corners) w ≡ kept_of corners (entries w)
     unfolding retained_of kept_of
     retained_open =
         picks_settled (λ (i : ℕ). is_open corners (get_or (time_body w) i 0)) (diff_end_body w) (entries w) 0 0 v (sym (diff_ends_in_lem w f)) refl
         ∙ pick-times (is_open corners) (time_body w) (entries w) 0 (sym (times_in_lem w f))
 
-    pub retained_shut : retained_of Shut corners w ≡ shipped_of corners (entries w)
+    pub retained_shut : retained_of (is_shut corners) w ≡ shipped_of corners (entries w)
     unfolding retained_of shipped_of
     retained_shut =
         picks_settled (λ (i : ℕ). not (is_open corners (get_or (time_body w) i 0))) (diff_end_body w) (entries w) 0 0 v (sym (diff_ends_in_lem w f)) refl

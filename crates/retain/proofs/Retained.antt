@@ -8,25 +8,22 @@ use lib.Dec.{eqb}
 use lib.ListN.{length, length-map, get_or}
 use Rattle.chunk.specs.Entry.{Entry, every, rising, stands, keep}
 use Rattle.chunk.specs.Bodies.{keys, vals, times, diffs, val_ends, time_ends, diff_ends, chunk_of}
-use Rattle.chunk.specs.Words.{well_formed, settled, entries, key_body, val_end_body, val_body, time_end_body, time_body, diff_end_body, diff_body, nk, nv, nt, nd, limit, table_size, ends_step, size, over}
-use Rattle.chunk.specs.declared.Contents.{Contents}
-use Rattle.chunk.specs.Contents.{start_of, table_of, contents_of, Placed}
-use Rattle.chunk.proofs.Placed.{cut_keys, cut_val_ends, cut_vals, cut_time_ends, cut_times_lem, cut_diff_ends, cut_diffs, length_keys, length_val_ends, length_vals, length_time_ends, length_times, length_diff_ends, length_diffs}
+use Rattle.chunk.specs.Words.{well_formed, settled, entries, key_body, val_end_body, val_body, time_end_body, time_body, diff_end_body, diff_body, nv, nt, nd, limit, table_size, ends_step, size}
+use Rattle.chunk.specs.Contents.{start_of, table_of, contents_in}
+use Rattle.chunk.proofs.Placed.{length_keys, length_val_ends, length_vals, length_time_ends, length_times, length_diff_ends, length_diffs}
 use borrow.Author.Tests.{ltb-true, eqb-true, leb-true}
 use Rattle.laws.proofs.Tests.{by_test, and_left, and_right}
 use Rattle.laws.proofs.OneChunk.{front_is_chunk}
 use Rattle.laws.proofs.Frame.{parts}
 use Rattle.laws.specs.Picked.{count_kept, pick, count_up, nodes, item_of, end_of, list_kept, RisesTo}
 use Rattle.retain.specs.Layers.{pick_at, has_diff, nodes_out, leaves_out, EndsWithin, EndsStep, AllDiffs, ListsLeft, Bodies, Left, layers_out}
-use Rattle.retain.specs.declared.Keep.{Keep}
-use Rattle.retain.specs.declared.Keep.TheVariants.{All}
-use Rattle.retain.specs.Keep.{keeps_at, time_kept, retained_of, ListsOf}
+use Rattle.retain.specs.Keep.{all_times, time_kept, retained_of, ListsOf}
 use Rattle.laws.proofs.Picked.{picked-keys, picked-val_ends, picked-vals, picked-time_ends, diff_ends_up, keep_all, nodes-pick}
 use Rattle.retain.proofs.Filtered.{pick_at_list, pick_at-diffs, picked_stands, length-pick, picked_few}
 use Rattle.retain.proofs.Counts.{count_most}
 use Rattle.chunk.proofs.Falling.{capped}
 use Rattle.laws.proofs.Ends.{start_as, rise_last}
-use Rattle.laws.proofs.Bodies.{keys_in_lem, val_ends_in_lem, vals_in_lem, time_ends_in_lem, times_in_lem, diff_ends_in_lem, diffs_in_lem, its_place, val_rows, time_rows_lem, over_vals_lem, over_times_lem, key_part, val_end_part, val_part, time_end_part, time_part, diff_end_part, diff_part}
+use Rattle.laws.proofs.Bodies.{keys_in_lem, val_ends_in_lem, vals_in_lem, time_ends_in_lem, times_in_lem, diff_ends_in_lem, diffs_in_lem, its_place, val_rows, time_rows_lem, over_vals_lem, over_times_lem}
 use Rattle.retain.proofs.Steps.{count-diffs, count_full}
 
 -- a layer's nodes are as many as its lists that have an item left
@@ -142,7 +139,7 @@ module _ (w : List ℕ) (f : well_formed w ≡ true) (leaf : ℕ → Bool) where
   pub diffs-within : EndsWithin (diff_end_body w) (length (diff_body w))
   diffs-within i h =
       let s = step_most 0 (diff_end_body w) (nd w) i (parts w f).diff_ends_step in
-      let l = length_diffs (contents_of w) w (its_place w f) in
+      let l = length_diffs (contents_in w) w (its_place w f) in
       let k : start_of (diff_end_body w) i < get_or (diff_end_body w) i 0 = ltb-true _ _ h in
       omega arith
 
@@ -151,14 +148,14 @@ module _ (w : List ℕ) (f : well_formed w ≡ true) (leaf : ℕ → Bool) where
       record {
         over_vals = over_vals_lem w f;
         over_times = over_times_lem w f;
-        time_rows = length_diff_ends (contents_of w) w (its_place w f) ∙ sym (length_times (contents_of w) w (its_place w f));
+        time_rows = length_diff_ends (contents_in w) w (its_place w f) ∙ sym (length_times (contents_in w) w (its_place w f));
         diffs_within = diffs-within;
         diffs_step = ends_step_lem (diff_end_body w) (nd w) (parts w f).diff_ends_step;
       }
 
   -- as many entries stand as there are diffs
   pub stand_count : length (keep stands es) ≡ nd w
-  stand_count = sym (length-map (keep stands es) (λ (e : Entry). e.diff)) ∙ ap length (diffs_in_lem w f) ∙ length_diffs (contents_of w) w (its_place w f)
+  stand_count = sym (length-map (keep stands es) (λ (e : Entry). e.diff)) ∙ ap length (diffs_in_lem w f) ∙ length_diffs (contents_in w) w (its_place w f)
 
   few-times : count_kept time_stays 0 (length (time_body w)) ≤ nd w
   few-times =
@@ -171,7 +168,7 @@ module _ (w : List ℕ) (f : well_formed w ≡ true) (leaf : ℕ → Bool) where
   its_keys k v l = l.lists ∙ ap (count_kept key_stays 0) (sym (val_rows w f))
 
   its_vals : (k v : ℕ) → ListsLeft value_stays (val_end_body w) k v → v ≡ count_kept value_stays 0 (length (val_body w))
-  its_vals k v l = l.items ∙ ap (count_kept value_stays 0) (rise_last (val_end_body w) (nv w) (parts w f).val_ends_rise ∙ sym (length_vals (contents_of w) w (its_place w f)))
+  its_vals k v l = l.items ∙ ap (count_kept value_stays 0) (rise_last (val_end_body w) (nv w) (parts w f).val_ends_rise ∙ sym (length_vals (contents_in w) w (its_place w f)))
 
   pub its_left : (k v t room : ℕ) → ListsLeft value_stays (val_end_body w) k v → t ≡ length fs → size w ≤ room
       → Left time_stays (key_body w) (val_end_body w) (val_body w) (time_end_body w) (time_body w) k v t × (table_size + 2 * k + 2 * v + 2 * t + t ≤ room)
@@ -182,11 +179,11 @@ module _ (w : List ℕ) (f : well_formed w ≡ true) (leaf : ℕ → Bool) where
       let mk = count_most key_stays 0 (length (key_body w)) in
       let mv = count_most value_stays 0 (length (val_body w)) in
       let mt = count_most time_stays 0 (length (time_body w)) in
-      let lk = length_keys (contents_of w) w (its_place w f) in
-      let lv = length_vals (contents_of w) w (its_place w f) in
-      let lt = length_times (contents_of w) w (its_place w f) in
-      let lke = length_val_ends (contents_of w) w (its_place w f) in
-      let lve = length_time_ends (contents_of w) w (its_place w f) in
+      let lk = length_keys (contents_in w) w (its_place w f) in
+      let lv = length_vals (contents_in w) w (its_place w f) in
+      let lt = length_times (contents_in w) w (its_place w f) in
+      let lke = length_val_ends (contents_in w) w (its_place w f) in
+      let lve = length_time_ends (contents_in w) w (its_place w f) in
       let bk = capped 0 (nv w) (val_end_body w) (parts w f).val_ends_rise in
       let bv = capped 0 (nt w) (time_end_body w) (parts w f).time_ends_rise in
       let bt : nt w ≤ limit = leb-true _ _ (parts w f).few in
@@ -222,47 +219,35 @@ all_step ends h i k =
 pub rises_as : (ends : List ℕ) (n m : ℕ) → RisesTo ends n → n ≡ m → RisesTo ends m
 rises_as ends n m r e = record { rise = r.rise; last = r.last ∙ e }
 
--- ---- the same of the parts that are cut out
+-- ---- what is read of a chunk
 
-module _ (w : List ℕ) (f : well_formed w ≡ true) (found : Contents) (p : Placed found w) where
-  pub cut_bodies : Bodies (key_part found w) (val_end_part found w) (val_part found w) (time_end_part found w) (time_part found w) (diff_end_part found w) (diff_part found w)
-  cut_bodies = rw (cut_keys found w p, cut_val_ends found w p, cut_vals found w p, cut_time_ends found w p, cut_times_lem found w p, cut_diff_ends found w p, cut_diffs found w p) (its_bodies w f (λ i. true))
-
-  pub cut_settled : settled w ≡ true → AllDiffs (time_part found w) (diff_end_part found w)
-  cut_settled s =
-      let lt = length_times found w p in
-      let ld = length_diff_ends found w p in
+module _ (w : List ℕ) (f : well_formed w ≡ true) where
+  pub settled_diffs : settled w ≡ true → AllDiffs (time_body w) (diff_end_body w)
+  settled_diffs s i h =
+      let lt = length_times (contents_in w) w (its_place w f) in
+      let ld = length_diff_ends (contents_in w) w (its_place w f) in
       let e : nd w ≡ length (diff_end_body w) = eqb-true _ _ s ∙ sym ld in
-      rw (cut_times_lem found w p, cut_diff_ends found w p) (λ i h. all_step (diff_end_body w) (ap (ends_step 0 (diff_end_body w)) (sym e) ∙ (parts w f).diff_ends_step) i (omega arith))
+      all_step (diff_end_body w) (ap (ends_step 0 (diff_end_body w)) (sym e) ∙ (parts w f).diff_ends_step) i (omega arith)
 
-  module _ (k : Keep) (corners : List ℕ) where
-    pub cut_left : (nk nv nt room : ℕ) → ListsOf k corners w nk nv → nt ≡ length (retained_of k corners w) → size w ≤ room
-        → Left (time_kept k (time_part found w) corners (diff_end_part found w)) (key_part found w) (val_end_part found w) (val_part found w) (time_end_part found w) (time_part found w) nk nv nt
+  module _ (p : ℕ → Bool) where
+    pub left_in : (nk nv nt room : ℕ) → ListsOf p w nk nv → nt ≡ length (retained_of p w) → size w ≤ room
+        → Left (time_kept p (time_body w) (diff_end_body w)) (key_body w) (val_end_body w) (val_body w) (time_end_body w) (time_body w) nk nv nt
         × (table_size + 2 * nk + 2 * nv + 2 * nt + nt ≤ room)
     unfolding retained_of
-    cut_left = rw (cut_keys found w p, cut_val_ends found w p, cut_vals found w p, cut_time_ends found w p, cut_times_lem found w p, cut_diff_ends found w p) (its_left w f (keeps_at k (time_body w) corners))
+    left_in = its_left w f (λ i. p (get_or (time_body w) i 0))
 
-    pub cut_words : (nk nv nt : ℕ) → ListsOf k corners w nk nv → nt ≡ length (retained_of k corners w)
-        → layers_out (time_kept k (time_part found w) corners (diff_end_part found w)) (key_part found w) (val_end_part found w) (val_part found w) (time_end_part found w) (time_part found w) (diff_end_part found w) (diff_part found w) nk nv nt
-        ≡ chunk_of (retained_of k corners w)
+    -- what is written is the chunk of what stays
+    pub written_of : (nk nv nt : ℕ) → ListsOf p w nk nv → nt ≡ length (retained_of p w)
+        → layers_out (time_kept p (time_body w) (diff_end_body w)) (key_body w) (val_end_body w) (val_body w) (time_end_body w) (time_body w) (diff_end_body w) (diff_body w) nk nv nt
+        ≡ chunk_of (retained_of p w)
     unfolding retained_of
-    cut_words = rw (cut_keys found w p, cut_val_ends found w p, cut_vals found w p, cut_time_ends found w p, cut_times_lem found w p, cut_diff_ends found w p, cut_diffs found w p) (its_words w f (keeps_at k (time_body w) corners))
+    written_of = its_words w f (λ i. p (get_or (time_body w) i 0))
 
-    -- what is written of the parts is the chunk of what stays
-    pub cut_over : (nk nv nt : ℕ) (out done : List ℕ) → ListsOf k corners w nk nv → nt ≡ length (retained_of k corners w)
-        → done ≡ over (layers_out (time_kept k (time_part found w) corners (diff_end_part found w)) (key_part found w) (val_end_part found w) (val_part found w) (time_end_part found w) (time_part found w) (diff_end_part found w) (diff_part found w) nk nv nt) out
-        → done ≡ over (chunk_of (retained_of k corners w)) out
-    cut_over nk nv nt out done l n e = e ∙ ap (λ (c : List ℕ). over c out) (cut_words nk nv nt l n)
-
-    -- what is counted of the parts is that of the chunk
-    pub cut_lists : (nk nv : ℕ) → ListsLeft (list_kept (time_kept k (time_part found w) corners (diff_end_part found w)) (time_end_part found w)) (val_end_part found w) nk nv → ListsOf k corners w nk nv
-    cut_lists = rw (cut_val_ends found w p, cut_time_ends found w p, cut_times_lem found w p, cut_diff_ends found w p) (λ nk nv l. l)
-
-  -- of a filter by the diff ends alone
-  pub cut_standing : (nk nv : ℕ) → ListsLeft (list_kept (has_diff (diff_end_part found w)) (time_end_part found w)) (val_end_part found w) nk nv → ListsOf All [] w nk nv
-  cut_standing nk nv l =
-      let e : has_diff (diff_end_part found w) ≡ time_kept All (time_part found w) [] (diff_end_part found w) = λ j i. and-true (has_diff (diff_end_part found w) i) j in
-      cut_lists All [] nk nv (rw (sym e) l)
+  -- those that have a diff are those that stay of a filter
+  pub standing_lists : (k v : ℕ) → ListsLeft (list_kept (has_diff (diff_end_body w)) (time_end_body w)) (val_end_body w) k v → ListsOf all_times w k v
+  standing_lists k v l =
+      let e : has_diff (diff_end_body w) ≡ time_kept all_times (time_body w) (diff_end_body w) = λ j i. and-true (has_diff (diff_end_body w) i) j in
+      rw (sym e) l
     where
       and-true : (b : Bool) → b ≡ (b && true)
       and-true b = by_test b (λ k. simp k) (λ k. simp k)

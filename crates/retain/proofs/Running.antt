@@ -11,12 +11,12 @@ use lib.Seq.{drop-cons, take-append_seam}
 use borrow.Author.Tests.{le-leb}
 use Rattle.chunk.specs.Entry.{keep}
 use Rattle.laws.proofs.Tests.{by_test, true-not-false}
-use Rattle.retain.specs.declared.Corners.{Corners}
+use Rattle.std.specs.Prelude.{Option, None, Some}
 use Rattle.retain.specs.declared.Kept.{Kept}
 use Rattle.retain.specs.declared.Frontier.{Frontier}
 use Rattle.retain.specs.Frontier.{any, is_open, ordered, least_of, places}
 use Rattle.retain.specs.Layers.{bit}
-use Rattle.retain.specs.Found.{Standing, Joined, joined, corners_of, corners_as, frontier_with, kept_by}
+use Rattle.retain.specs.Found.{Standing, Joined, joined, corners_of, corners_as, frontier_with, kept_with, kept_by}
 use Rattle.retain.proofs.Joining.{member, below_trans, joined-or, pass_over, put_among, joined-ordered, ordered_least}
 use Rattle.chunk.specs.Time.{at_or_below}
 use Rattle.retain.proofs.Alone.{has, some-has}
@@ -165,18 +165,22 @@ module _ (upper times : List ℕ) where
         }
 
   pub running_end : (corners : List ℕ) (count number i : ℕ) → Running corners count number i → length times ≤ i
-      → ◌≡◌ {A = Kept} (record { fits = true; number = number; frontier = record { count = count; corners = corners } }) (kept_by (keep (is_open upper) times))
+      → ◌≡◌ {A = Option Kept} (Some (record { number = number; frontier = record { count = count; corners = corners } })) (kept_by (keep (is_open upper) times))
   running_end corners count number i w h =
       let s : List ℕ = take count corners in
       let n : length s ≡ count = standing-length corners count w.standing in
       let l : least_of (keep (is_open upper) times) ≡ s = w.whole ∙ ap (λ (x : List ℕ). least_of (s ++ x)) (rest_end i h) ∙ ap least_of (append-nil s) ∙ ordered_least s w.standing.stairs in
       let b : leb (length s) 128 ≡ true = le-leb (length s) 128 (omega (arith, w.standing.within)) in
       let c : corners_as true s ≡ corners_of (least_of (keep (is_open upper) times)) = ap (λ (x : Bool). corners_as x s) (sym b) ∙ ap corners_of (sym l) in
-      (λ k. record { fits = (c k).fits; number = opened_end number i w.opened h k; frontier = (filled ∙ ap (λ (x : Corners). x.frontier) c) k })
+      (λ k. Some (record { number = opened_end number i w.opened h k; frontier = filled k })) ∙ ap (kept_with (length (keep (is_open upper) times))) c
     where
       filled : ◌≡◌ {A = Frontier} (record { count = count; corners = corners }) (frontier_with (take count corners))
       filled = λ k. record { count = sym (standing-length corners count w.standing) k; corners = w.standing.filled k }
 
 -- the same from its parts
-pub kept_parts : (ts : List ℕ) (r : Corners) (number : ℕ) → r ≡ corners_of (least_of ts) → number ≡ length ts → ◌≡◌ {A = Kept} (record { fits = r.fits; number = number; frontier = r.frontier }) (kept_by ts)
-kept_parts ts r number e h = λ k. record { fits = (e k).fits; number = h k; frontier = (e k).frontier }
+pub kept_some : (ts : List ℕ) (f : Frontier) (number : ℕ) → Some f ≡ corners_of (least_of ts) → number ≡ length ts
+    → ◌≡◌ {A = Option Kept} (Some (record { number = number; frontier = f })) (kept_by ts)
+kept_some ts f number e h = λ k. kept_with (h k) (e k)
+
+pub kept_none : (ts : List ℕ) → None ≡ corners_of (least_of ts) → None ≡ kept_by ts
+kept_none ts e = ap (kept_with (length ts)) e

@@ -12,11 +12,19 @@ use Rattle.chunk.specs.Entry.{tick, keep}
 use Rattle.chunk.specs.Time.{earlier}
 use Rattle.chunk.proofs.Tests.{earlier_is_less}
 use Rattle.laws.proofs.Tests.{by_test, and_left, and_right, and_both, and-false, true-not-false}
-use Rattle.retain.specs.declared.Least.{Least}
-use Rattle.retain.specs.declared.Corners.{Corners}
+use Rattle.std.specs.Prelude.{Option, None, Some}
+use Rattle.retain.specs.declared.Frontier.{Frontier}
 use Rattle.retain.specs.Frontier.{any, is_open, least_of, places}
 use Rattle.retain.specs.Found.{least_from, better_than, corners_of, corners_as}
 use Rattle.retain.proofs.Alone.{has, has-keep, least_cons}
+
+none-some : (x : ℕ) → ◌≡◌ {A = Option ℕ} None (Some x) → ⊥
+none-some x h = cc
+
+-- what is there, or 0
+abbrev got : Option ℕ → ℕ
+got None = 0
+got (Some x) = x
 
 module _ (upper : List ℕ) (limit : ℕ) where
   -- the open times with a tick below the limit
@@ -42,11 +50,12 @@ module _ (upper : List ℕ) (limit : ℕ) where
       (λ k. simp k)
 
   -- the best of those left, once there is one
-  pub record Best (ts : List ℕ) (best : ℕ) (r : Least) : Type 0 where
-    pub found : r.found ≡ true
-    pub most : r.time ≤ best
-    pub least : (t : ℕ) → has t (under ts) ≡ true → r.time ≤ t
-    pub among : (r.time ≡ best → ⊥) → has r.time (under ts) ≡ true
+  pub record Best (ts : List ℕ) (best : ℕ) (r : Option ℕ) : Type 0 where
+    pub value : ℕ
+    pub found : r ≡ Some value
+    pub most : value ≤ best
+    pub least : (t : ℕ) → has t (under ts) ≡ true → value ≤ t
+    pub among : (value ≡ best → ⊥) → has value (under ts) ≡ true
 
   has_more : (t x : ℕ) (l : List ℕ) → has t l ≡ true → has t (x ∷ l) ≡ true
   unfolding any
@@ -64,10 +73,10 @@ module _ (upper : List ℕ) (limit : ℕ) where
   unfolding keep any
   no_under t = refl
 
-  best_of : (ts : List ℕ) (best : ℕ) → Best ts best (least_from upper limit ts true best)
+  best_of : (ts : List ℕ) (best : ℕ) → Best ts best (least_from upper limit ts (Some best))
   unfolding least_from
   best_of [] best =
-      record { found = refl; most = omega arith; least = λ t h. absurd (true-not-false (sym h ∙ no_under t)); among = λ h. absurd (h refl) }
+      record { value = best; found = refl; most = omega arith; least = λ t h. absurd (true-not-false (sym h ∙ no_under t)); among = λ h. absurd (h refl) }
   best_of (t ∷ ts) best =
       by_test (counts t)
       (λ k. let u : under (t ∷ ts) ≡ t ∷ under ts = under_in t ts k in
@@ -75,32 +84,35 @@ module _ (upper : List ℕ) (limit : ℕ) where
       let op : is_open upper t ≡ true = and_right (ltb (tick t) limit) _ k in
       by_test (earlier t best)
       (λ b. let tb : t < best = ltb-true _ _ (earlier_is_less t best ∙ b) in
-      let ih : Best ts t (least_from upper limit ts true t) = best_of ts t in
+      let ih : Best ts t (least_from upper limit ts (Some t)) = best_of ts t in
       simp (tl, op, b) (record {
+        value = ih.value;
         found = ih.found;
         most = omega (arith, ih.most);
         least = λ x h. has_split x t (under ts) _ (simp u at h) (λ e. omega (arith, ih.most)) (λ g. ih.least x g);
         among = λ h. rw u (among-cons _ t (under ts) ih.among);
       }))
       (λ b. let tb : best ≤ t = ltb-false _ _ (earlier_is_less t best ∙ b) in
-      let ih : Best ts best (least_from upper limit ts true best) = best_of ts best in
+      let ih : Best ts best (least_from upper limit ts (Some best)) = best_of ts best in
       simp (tl, op, b) (record {
+        value = ih.value;
         found = ih.found;
         most = ih.most;
         least = λ x h. has_split x t (under ts) _ (simp u at h) (λ e. omega (arith, ih.most)) (λ g. ih.least x g);
         among = λ h. rw u (has_more _ t (under ts) (ih.among h));
       })))
       (λ k. let u : under (t ∷ ts) ≡ under ts = under_out t ts k in
-      let ih : Best ts best (least_from upper limit ts true best) = best_of ts best in
-      let no : better_than upper limit true best t ≡ false = not_better t best k in
+      let ih : Best ts best (least_from upper limit ts (Some best)) = best_of ts best in
+      let no : better_than upper limit (Some best) t ≡ false = not_better t best k in
       simp no (record {
+        value = ih.value;
         found = ih.found;
         most = ih.most;
         least = λ x h. ih.least x (simp u at h);
         among = λ h. rw u (ih.among h);
       }))
     where
-      not_better : (t best : ℕ) → counts t ≡ false → better_than upper limit true best t ≡ false
+      not_better : (t best : ℕ) → counts t ≡ false → better_than upper limit (Some best) t ≡ false
       not_better t best k =
           by_test (ltb (tick t) limit)
           (λ a. by_test (is_open upper t) (λ o. absurd (true-not-false (sym (and_both _ _ a o) ∙ k))) (λ o. simp (a, o, and-false)))
@@ -111,40 +123,41 @@ module _ (upper : List ℕ) (limit : ℕ) where
   under-nil = refl
 
   -- nothing found: nothing there
-  pub none_found : (ts : List ℕ) (best : ℕ) → (least_from upper limit ts false best).found ≡ false → under ts ≡ []
+  pub none_found : (ts : List ℕ) → None ≡ least_from upper limit ts None → under ts ≡ []
   unfolding least_from
-  none_found [] best h = under-nil
-  none_found (t ∷ ts) best h =
+  none_found [] h = under-nil
+  none_found (t ∷ ts) h =
       by_test (counts t)
       (λ k. let tl : ltb (tick t) limit ≡ true = and_left _ _ k in
       let op : is_open upper t ≡ true = and_right (ltb (tick t) limit) _ k in
-      absurd (true-not-false (sym (best_of ts t).found ∙ simp (tl, op) at h)))
-      (λ k. under_out t ts k ∙ none_found ts best (simp (not_first t k) at h))
+      absurd (none-some _ (simp (tl, op) at h ∙ (best_of ts t).found)))
+      (λ k. under_out t ts k ∙ none_found ts (simp (not_first t k) at h))
     where
-      not_first : (t : ℕ) → counts t ≡ false → better_than upper limit false best t ≡ false
+      not_first : (t : ℕ) → counts t ≡ false → better_than upper limit None t ≡ false
       not_first t k = k
 
   -- something found: it is the least there
-  pub record Found (ts : List ℕ) (r : Least) : Type 0 where
-    pub least : (t : ℕ) → has t (under ts) ≡ true → r.time ≤ t
-    pub among : has r.time (under ts) ≡ true
+  pub record Found (ts : List ℕ) (best : ℕ) : Type 0 where
+    pub least : (t : ℕ) → has t (under ts) ≡ true → best ≤ t
+    pub among : has best (under ts) ≡ true
 
-  pub some-found : (ts : List ℕ) (best : ℕ) → (least_from upper limit ts false best).found ≡ true → Found ts (least_from upper limit ts false best)
+  pub some-found : (ts : List ℕ) (best : ℕ) → Some best ≡ least_from upper limit ts None → Found ts best
   unfolding least_from
-  some-found [] best h = absurd (true-not-false (sym h))
+  some-found [] best h = absurd (none-some best (sym h))
   some-found (t ∷ ts) best h =
       by_test (counts t)
       (λ k. let u : under (t ∷ ts) ≡ t ∷ under ts = under_in t ts k in
       let tl : ltb (tick t) limit ≡ true = and_left _ _ k in
       let op : is_open upper t ≡ true = and_right (ltb (tick t) limit) _ k in
-      let ih : Best ts t (least_from upper limit ts true t) = best_of ts t in
-      simp (tl, op) (record {
+      let ih : Best ts t (least_from upper limit ts (Some t)) = best_of ts t in
+      let z : best ≡ ih.value = ap got (simp (tl, op) at h ∙ ih.found) in
+      rw z (record {
         least = λ x g. has_split x t (under ts) _ (simp u at g) (λ e. omega (arith, ih.most)) (λ m. ih.least x m);
         among = rw u (among-cons _ t (under ts) ih.among);
       }))
       (λ k. let u : under (t ∷ ts) ≡ under ts = under_out t ts k in
-      let ih : Found ts (least_from upper limit ts false best) = some-found ts best (simp k at h) in
-      simp k (record { least = λ x g. ih.least x (simp u at g); among = rw u ih.among }))
+      let ih : Found ts best = some-found ts best (simp k at h) in
+      record { least = λ x g. ih.least x (simp u at g); among = rw u ih.among })
 
 -- ---- corner after corner
 
@@ -186,32 +199,32 @@ module _ (upper times : List ℕ) where
         blank = refl;
       }
 
-  next_corner : (limit : ℕ) (r : Least) → Found upper limit times r → least_of (under upper limit times) ≡ r.time ∷ least_of (under upper (tick r.time) times)
-  next_corner limit r f =
-      let m : (has r.time opened && ltb (tick r.time) limit) ≡ true = sym (has-keep (λ (t : ℕ). ltb (tick t) limit) r.time opened) ∙ f.among in
-      let b : tick r.time < limit = ltb-true _ _ (and_right (has r.time opened) _ m) in
-      least_cons r.time (under upper limit times) f.among f.least
-      ∙ ap (λ (l : List ℕ). r.time ∷ least_of l)
-      (keep-keep (λ (t : ℕ). ltb (tick t) (tick r.time)) (λ (t : ℕ). ltb (tick t) limit)
-      (λ t h. let g : tick t < tick r.time = ltb-true _ _ h in lt-ltb (tick t) limit (omega arith)) opened)
+  next_corner : (limit best : ℕ) → Found upper limit times best → least_of (under upper limit times) ≡ best ∷ least_of (under upper (tick best) times)
+  next_corner limit best f =
+      let m : (has best opened && ltb (tick best) limit) ≡ true = sym (has-keep (λ (t : ℕ). ltb (tick t) limit) best opened) ∙ f.among in
+      let b : tick best < limit = ltb-true _ _ (and_right (has best opened) _ m) in
+      least_cons best (under upper limit times) f.among f.least
+      ∙ ap (λ (l : List ℕ). best ∷ least_of l)
+      (keep-keep (λ (t : ℕ). ltb (tick t) (tick best)) (λ (t : ℕ). ltb (tick t) limit)
+      (λ t h. let g : tick t < tick best = ltb-true _ _ h in lt-ltb (tick t) limit (omega arith)) opened)
 
-  pub climb_more : (corners : List ℕ) (count limit : ℕ) (r : Least) → Climbing corners count limit → count < 128
-      → r ≡ least_from upper limit times false 0 → r.found ≡ true → Climbing (set corners count r.time) (count + 1) (tick r.time)
-  climb_more corners count limit r w h e k =
-      let f : Found upper limit times r = rw e (some-found upper limit times 0 (sym (ap (λ (x : Least). x.found) e) ∙ k)) in
+  pub climb_more : (corners : List ℕ) (count limit best : ℕ) → Climbing corners count limit → count < 128
+      → Some best ≡ least_from upper limit times None → Climbing (set corners count best) (count + 1) (tick best)
+  climb_more corners count limit best w h e =
+      let f : Found upper limit times best = some-found upper limit times best e in
       let s : count + 1 ≡ suc count = omega arith in
       let n : 128 - count ≡ suc (128 - suc count) = omega arith in
       let lt : count < length corners = omega (arith, w.size) in
       record {
         within = omega arith;
-        size = length-set corners count r.time ∙ w.size;
+        size = length-set corners count best ∙ w.size;
         whole =
-            w.whole ∙ ap (λ (l : List ℕ). take count corners ++ l) (next_corner limit r f)
-            ∙ sym (append_assoc (take count corners) (r.time ∷ []) (least_of (under upper (tick r.time) times)))
-            ∙ ap (λ (l : List ℕ). l ++ least_of (under upper (tick r.time) times)) (sym (take-suc-set corners count r.time lt) ∙ ap (λ (j : ℕ). take j (set corners count r.time)) (sym s));
+            w.whole ∙ ap (λ (l : List ℕ). take count corners ++ l) (next_corner limit best f)
+            ∙ sym (append_assoc (take count corners) (best ∷ []) (least_of (under upper (tick best) times)))
+            ∙ ap (λ (l : List ℕ). l ++ least_of (under upper (tick best) times)) (sym (take-suc-set corners count best lt) ∙ ap (λ (j : ℕ). take j (set corners count best)) (sym s));
         blank =
-            ap (λ (j : ℕ). drop j (set corners count r.time)) s
-            ∙ drop-set-lt (suc count) corners count r.time (omega arith)
+            ap (λ (j : ℕ). drop j (set corners count best)) s
+            ∙ drop-set-lt (suc count) corners count best (omega arith)
             ∙ drop_next corners count (128 - suc count) (w.blank ∙ ap (λ (j : ℕ). replicate j 0) n)
             ∙ ap (λ (j : ℕ). replicate (128 - j) 0) (sym s);
       }
@@ -220,26 +233,25 @@ module _ (upper times : List ℕ) where
   unfolding least_of keep
   least-nil = refl
 
-  pub climb_done : (corners : List ℕ) (count limit : ℕ) (r : Least) → Climbing corners count limit
-      → r ≡ least_from upper limit times false 0 → r.found ≡ false
-      → ◌≡◌ {A = Corners} (record { fits = true; frontier = record { count = count; corners = corners } }) (corners_of (least_of opened))
-  climb_done corners count limit r w e k =
-      let u : under upper limit times ≡ [] = none_found upper limit times 0 (sym (ap (λ (x : Least). x.found) e) ∙ k) in
+  pub climb_done : (corners : List ℕ) (count limit : ℕ) → Climbing corners count limit → None ≡ least_from upper limit times None
+      → ◌≡◌ {A = Option Frontier} (Some (record { count = count; corners = corners })) (corners_of (least_of opened))
+  climb_done corners count limit w e =
+      let u : under upper limit times ≡ [] = none_found upper limit times e in
       let l : least_of opened ≡ take count corners = w.whole ∙ ap (λ (x : List ℕ). take count corners ++ least_of x) u ∙ ap (λ (x : List ℕ). take count corners ++ x) least-nil ∙ append-nil (take count corners) in
       let n : length (take count corners) ≡ count = length-take-le count corners (omega (arith, w.size, w.within)) in
       let b : leb (length (take count corners)) 128 ≡ true = le-leb (length (take count corners)) 128 (omega (arith, w.within)) in
       let p : corners ≡ places (take count corners) =
       sym (take-append-drop count corners) ∙ ap (λ (x : List ℕ). take count corners ++ x) (w.blank ∙ ap (λ (j : ℕ). replicate (128 - j) 0) (sym n)) in
-      (λ i. record { fits = true; frontier = record { count = sym n i; corners = p i } })
+      (λ i. Some (record { count = sym n i; corners = p i }))
       ∙ ap (λ (x : Bool). corners_as x (take count corners)) (sym b) ∙ ap corners_of (sym l)
 
-  pub climb_over : (corners : List ℕ) (count limit : ℕ) (r : Least) → Climbing corners count limit → 128 ≤ count
-      → r ≡ least_from upper limit times false 0 → r.found ≡ true → corners_as false [] ≡ corners_of (least_of opened)
-  climb_over corners count limit r w h e k =
-      let f : Found upper limit times r = rw e (some-found upper limit times 0 (sym (ap (λ (x : Least). x.found) e) ∙ k)) in
+  pub climb_over : (corners : List ℕ) (count limit best : ℕ) → Climbing corners count limit → 128 ≤ count
+      → Some best ≡ least_from upper limit times None → None ≡ corners_of (least_of opened)
+  climb_over corners count limit best w h e =
+      let f : Found upper limit times best = some-found upper limit times best e in
       let n : length (take count corners) ≡ count = length-take-le count corners (omega (arith, w.size, w.within)) in
-      let l : least_of opened ≡ take count corners ++ (r.time ∷ least_of (under upper (tick r.time) times)) = w.whole ∙ ap (λ (x : List ℕ). take count corners ++ x) (next_corner limit r f) in
-      let m = length-append (take count corners) (r.time ∷ least_of (under upper (tick r.time) times)) in
-      let z : length (least_of opened) ≡ length (take count corners ++ (r.time ∷ least_of (under upper (tick r.time) times))) = ap length l in
+      let l : least_of opened ≡ take count corners ++ (best ∷ least_of (under upper (tick best) times)) = w.whole ∙ ap (λ (x : List ℕ). take count corners ++ x) (next_corner limit best f) in
+      let m = length-append (take count corners) (best ∷ least_of (under upper (tick best) times)) in
+      let z : length (least_of opened) ≡ length (take count corners ++ (best ∷ least_of (under upper (tick best) times))) = ap length l in
       let b : leb (length (least_of opened)) 128 ≡ false = lt-leb (length (least_of opened)) 128 (omega arith) in
       ap (λ (x : Bool). corners_as x (least_of opened)) (sym b)

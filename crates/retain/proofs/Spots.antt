@@ -1,12 +1,13 @@
--- A time put among corners that stand at the front of 128 places: by shifting those behind it.
+-- A time put among corners that stand at the front of 128 places: those behind it move, and what is left behind them is filled with zeros.
 use Prim.Native.Nat.{ℕ, suc, ◌+◌, ◌-◌, ◌<◌, ◌≤◌}
 use mathlib.Core.Path.{◌≡◌, sym, ◌∙◌, ap}
 use mathlib.Core.Bool.{true, false}
-use mathlib.Core.List.{List, [], ◌∷◌, ◌++◌, append_assoc}
+use mathlib.Core.List.{List, [], ◌∷◌, ◌++◌}
 use native.Mathlib.Omega.{arith}
 use lib.Dec.{leb, eqb}
 use lib.ListN.{length, take, drop, get_or, set, replicate, length-append, length-drop, replicate-append-replicate}
-use lib.Seq.{length-take-le, take-append-le, drop-append-le, take-append-add, drop-append-add, take-append_seam, set-append_left, set_split, drop-drop, take_at, drop_at, append_snoc}
+use lib.Seq.{paste, length-take-le, take-take, take-suc-set, take-set-lt, drop-append-add, set-append_left, drop-drop, take_at, drop_at, append_snoc}
+use Rattle.std.proofs.lemmas.List.{drop-take, drop-replicate}
 use borrow.Author.Tests.{leb-false, eqb-true, eqb-false, le-leb}
 use borrow.Rule.Slice.PartMut.{put_mid}
 use Rattle.chunk.specs.Entry.{ignition, tick}
@@ -16,7 +17,6 @@ use Rattle.retain.specs.Frontier.{is_open, ordered}
 use Rattle.retain.specs.Found.{Before, Passed, Standing, Joined, joined}
 use Rattle.retain.proofs.Stairs.{any_some, ordered_at}
 use Rattle.retain.proofs.Joining.{Spot, joined_split}
-use Rattle.retain.proofs.Copies.{lowered}
 
 -- the place found and the end of the run make the spot
 pub spot : (corners : List ℕ) (t n end : ℕ) → ordered corners ≡ true → is_open corners t ≡ false → Before corners t n → Passed corners t n end → Spot corners t n end
@@ -46,48 +46,20 @@ spot corners t n end o shut b p =
 
 -- ---- lists
 
--- one more, and the zero behind them goes
-shifted_up : (s z : List ℕ) (t n : ℕ) → n ≤ length s
-    → put_mid n (length s + 1 - n) (s ++ 0 ∷ z) (take (length (take (length s + 1 - n) (drop n (s ++ 0 ∷ z)))) (t ∷ take (length s + 1 - n) (drop n (s ++ 0 ∷ z))))
-    ≡ (take n s ++ t ∷ drop n s) ++ z
-shifted_up s z t n h =
-    let ld : length (drop n s) ≡ length s - n = length-drop n s in
-    let m : length s + 1 - n ≡ length (drop n s) + 1 = omega arith in
-    let dn : drop n (s ++ 0 ∷ z) ≡ drop n s ++ 0 ∷ z = drop-append-le n s (0 ∷ z) h in
-    let tn : take n (s ++ 0 ∷ z) ≡ take n s = take-append-le n s (0 ∷ z) h in
-    let part : take (length s + 1 - n) (drop n (s ++ 0 ∷ z)) ≡ drop n s ++ 0 ∷ [] = (λ i. take (m i) (dn i)) ∙ take-append-add (drop n s) (0 ∷ z) 1 in
-    let lp : length (drop n s ++ 0 ∷ []) ≡ suc (length (drop n s)) = length-append (drop n s) (0 ∷ []) ∙ omega arith in
-    let new : take (length (drop n s ++ 0 ∷ [])) (t ∷ (drop n s ++ 0 ∷ [])) ≡ t ∷ drop n s = ap (λ (k : ℕ). take k (t ∷ (drop n s ++ 0 ∷ []))) lp ∙ ap (λ (x : List ℕ). t ∷ x) (take-append_seam (drop n s) (0 ∷ [])) in
-    let rest : drop (length s + 1 - n) (drop n (s ++ 0 ∷ z)) ≡ z = (λ i. drop (m i) (dn i)) ∙ drop-append-add (drop n s) (0 ∷ z) 1 in
-    (λ i. tn i ++ (take (length (part i)) (t ∷ part i) ++ rest i))
-    ∙ ap (λ (x : List ℕ). take n s ++ (x ++ z)) new
-    ∙ sym (append_assoc (take n s) (t ∷ drop n s) z)
-
--- a time in the place of one
-stored : (s z : List ℕ) (t n : ℕ) → n < length s → set (s ++ z) n t ≡ (take n s ++ t ∷ []) ++ (drop (suc n) s ++ z)
-stored s z t n h =
-    set-append_left s z n t h ∙ ap (λ (x : List ℕ). x ++ z) (set_split s n t h ∙ sym (append_snoc (take n s) t (drop (suc n) s)))
-    ∙ append_assoc (take n s ++ t ∷ []) (drop (suc n) s) z
-
--- a time in the place of one, and those behind it down by the others that go
-shifted_down : (s z : List ℕ) (t n by : ℕ) → n < length s
-    → put_mid (n + 1) (length s - (n + 1)) (set (s ++ z) n t) (lowered (take (length s - (n + 1)) (drop (n + 1) (set (s ++ z) n t))) by)
-    ≡ (take n s ++ t ∷ drop (suc n + by) s) ++ (replicate by 0 ++ z)
-shifted_down s z t n by h =
-    let a : List ℕ = take n s ++ t ∷ [] in
-    let d : List ℕ = drop (suc n) s in
-    let la : length (take n s ++ t ∷ []) ≡ n + 1 = length-append (take n s) (t ∷ []) ∙ ap (λ (k : ℕ). k + 1) (length-take-le n s (omega arith)) in
-    let ld : length (drop (suc n) s) ≡ length s - suc n = length-drop (suc n) s in
-    let m : length (drop (suc n) s) ≡ length s - (n + 1) = ld ∙ (omega arith) in
-    let e : set (s ++ z) n t ≡ a ++ (d ++ z) = stored s z t n h in
-    let front : take (n + 1) (set (s ++ z) n t) ≡ a = ap (take (n + 1)) e ∙ take_at a (d ++ z) (n + 1) la in
-    let back : drop (n + 1) (set (s ++ z) n t) ≡ d ++ z = ap (drop (n + 1)) e ∙ drop_at a (d ++ z) (n + 1) la in
-    let part : take (length s - (n + 1)) (drop (n + 1) (set (s ++ z) n t)) ≡ d = ap (take (length s - (n + 1))) back ∙ take_at d z (length s - (n + 1)) m in
-    let rest : drop (length s - (n + 1)) (drop (n + 1) (set (s ++ z) n t)) ≡ z = ap (drop (length s - (n + 1))) back ∙ drop_at d z (length s - (n + 1)) m in
-    (λ i. front i ++ (lowered (part i) by ++ rest i))
-    ∙ ap (λ (x : List ℕ). a ++ x) (append_assoc (drop by d) (replicate by 0) z)
-    ∙ sym (append_assoc a (drop by d) (replicate by 0 ++ z))
-    ∙ ap (λ (x : List ℕ). x ++ (replicate by 0 ++ z)) (append_snoc (take n s) t (drop by d) ∙ ap (λ (x : List ℕ). take n s ++ t ∷ x) (drop-drop by (suc n) s))
+-- a time in the place of some, and those behind it next to it
+placed : (l : List ℕ) (t n end count : ℕ) → n < length l → n ≤ count → end ≤ count → count ≤ length l
+    → set (paste l (n + 1) (drop end l) (count - end)) n t ≡ (take n (take count l) ++ t ∷ drop end (take count l)) ++ drop (n + 1 + (count - end)) l
+placed l t n end count h c e q =
+    let s1 : n + 1 ≡ suc n = omega arith in
+    let z : end + (count - end) ≡ count = omega arith in
+    let front : set (take (n + 1) l) n t ≡ take n l ++ t ∷ [] = sym (take-set-lt (n + 1) l n t (omega arith)) ∙ ap (λ (k : ℕ). take k (set l n t)) s1 ∙ take-suc-set l n t h in
+    let back : take (count - end) (drop end l) ≡ drop end (take count l) = sym (drop-take end (count - end) l) ∙ ap (λ (k : ℕ). drop end (take k l)) z in
+    let len : length (take (n + 1) l) ≡ n + 1 = length-take-le (n + 1) l (omega arith) in
+    let rest : List ℕ = drop (n + 1 + (count - end)) l in
+    set-append_left (take (n + 1) l ++ take (count - end) (drop end l)) rest n t (let k = length-append (take (n + 1) l) (take (count - end) (drop end l)) in omega arith)
+    ∙ ap (λ (x : List ℕ). x ++ rest) (set-append_left (take (n + 1) l) (take (count - end) (drop end l)) n t (omega arith))
+    ∙ (λ i. (front i ++ back i) ++ rest)
+    ∙ ap (λ (x : List ℕ). x ++ rest) (append_snoc (take n l) t (drop end (take count l)) ∙ ap (λ (x : List ℕ). x ++ t ∷ drop end (take count l)) (sym (take-take n count l c)))
 
 -- ---- corners that stand
 
@@ -105,57 +77,58 @@ module _ (l : List ℕ) (count : ℕ) (w : Standing l count) (t n end : ℕ) (b 
       ∙ (λ i. length-take-le n (take count l) b.within i + suc (length-drop end (take count l) i))
       ∙ ap (λ (k : ℕ). n + suc (k - end)) ls
 
-  pub joined_full : end ≤ n → 128 < count + 1 → (after : List ℕ) → Joined t (take count l) (count + 1) after
-  joined_full h k after =
-      let ls = standing-length l count w in
-      record { number = sym (number ∙ omega (arith, b.within, p.onward)); standing = λ q. absurd (omega arith) }
+  -- how many there are then
+  abbrev top : ℕ
+  top = count - end + n + 1
 
-  pub joined_more : end ≤ n → count + 1 ≤ 128 → (new : List ℕ) → new ≡ take (length (take (count + 1 - n) (drop n l))) (t ∷ take (count + 1 - n) (drop n l))
-      → Joined t (take count l) (count + 1) (put_mid n (count + 1 - n) l new)
-  joined_more h k new e =
-      let ls : length (take count l) ≡ count = standing-length l count w in
-      let num : count + 1 ≡ length (joined t (take count l)) = sym (number ∙ omega (arith, b.within, p.onward)) in
-      let z : 128 - length (take count l) ≡ suc (128 - (count + 1)) = omega arith in
-      let en : end ≡ n = omega (arith, p.onward) in
-      let l0 : l ≡ take count l ++ 0 ∷ replicate (128 - (count + 1)) 0 = w.filled ∙ ap (λ (k : ℕ). take count l ++ replicate k 0) z in
-      record {
-        number = num;
-        standing = λ q.
-            grown (take count l) (replicate (128 - (count + 1)) 0) l0 ls new e
-            ∙ (λ i. (take n (take count l) ++ t ∷ drop (sym en i) (take count l)) ++ replicate (128 - num i) 0)
-            ∙ ap (λ (x : List ℕ). x ++ replicate (128 - length (joined t (take count l))) 0) (sym split);
-      }
-    where
-      grown : (s z : List ℕ) → l ≡ s ++ 0 ∷ z → length s ≡ count → (new : List ℕ) → new ≡ take (length (take (count + 1 - n) (drop n l))) (t ∷ take (count + 1 - n) (drop n l))
-          → put_mid n (count + 1 - n) l new ≡ (take n s ++ t ∷ drop n s) ++ z
-      grown s z e ls new f =
-          let q : n ≤ length s = omega (arith, b.within, standing-length l count w) in
-          ap (put_mid n (count + 1 - n) l) f
-          ∙ (λ i. put_mid n (sym ls i + 1 - n) (e i) (take (length (take (sym ls i + 1 - n) (drop n (e i)))) (t ∷ take (sym ls i + 1 - n) (drop n (e i)))))
-          ∙ shifted_up s z t n q
+  its_number : top ≡ length (joined t (take count l))
+  its_number = let d = number in omega arith
 
-  pub joined_fewer : n < end → (new : List ℕ) → new ≡ lowered (take (count - (n + 1)) (drop (n + 1) (set l n t))) (end - (n + 1))
-      → Joined t (take count l) (count - (end - (n + 1))) (put_mid (n + 1) (count - (n + 1)) (set l n t) new)
-  joined_fewer h new e =
-      let ls : length (take count l) ≡ count = standing-length l count w in
-      let pw : end ≤ length (take count l) = p.within in
-      let cw : count ≤ 128 = w.within in
-      let num : count - (end - (n + 1)) ≡ length (joined t (take count l)) = sym (number ∙ omega arith) in
-      let en : suc n + (end - (n + 1)) ≡ end = omega arith in
-      let z : (end - (n + 1)) + (128 - length (take count l)) ≡ 128 - length (joined t (take count l)) = omega arith in
-      record {
-        number = num;
-        standing = λ q.
-            shrunk (take count l) (replicate (128 - length (take count l)) 0) w.filled ls new e
-            ∙ (λ i. (take n (take count l) ++ t ∷ drop (en i) (take count l)) ++ replicate-append-replicate (end - (n + 1)) (128 - length (take count l)) 0 i)
-            ∙ (λ i. sym split i ++ replicate (z i) 0);
-      }
-    where
-      shrunk : (s z : List ℕ) → l ≡ s ++ z → length s ≡ count → (new : List ℕ) → new ≡ lowered (take (count - (n + 1)) (drop (n + 1) (set l n t))) (end - (n + 1))
-          → put_mid (n + 1) (count - (n + 1)) (set l n t) new ≡ (take n s ++ t ∷ drop (suc n + (end - (n + 1))) s) ++ (replicate (end - (n + 1)) 0 ++ z)
-      shrunk s z e ls new f =
-          let ks : length (take count l) ≡ count = standing-length l count w in
-          let q : n < length s = omega (arith, p.within) in
-          ap (put_mid (n + 1) (count - (n + 1)) (set l n t)) f
-          ∙ (λ i. put_mid (n + 1) (sym ls i - (n + 1)) (set (e i) n t) (lowered (take (sym ls i - (n + 1)) (drop (n + 1) (set (e i) n t))) (end - (n + 1))))
-          ∙ shifted_down s z t n (end - (n + 1)) q
+  pub joined_full : 128 < top → (after : List ℕ) → Joined t (take count l) top after
+  joined_full h after = record { number = its_number; standing = λ q. absurd (omega arith) }
+
+  module _ (few : top ≤ 128) where
+    -- the time in its place, with those behind it next to it
+    abbrev stored : List ℕ
+    stored = set (paste l (n + 1) (drop end l) (count - end)) n t
+
+    ended : end ≤ count
+    ended = let ls = standing-length l count w in omega (arith, p.within)
+
+    stored_is : stored ≡ joined t (take count l) ++ drop top l
+    stored_is =
+        let e = ended in
+        let z : n + 1 + (count - end) ≡ top = omega arith in
+        placed l t n end count (omega (arith, w.size)) (omega (arith, p.onward)) e (omega (arith, w.size, w.within))
+        ∙ (λ i. sym split i ++ drop (z i) l)
+
+    -- past all corners stand zeros
+    blank : (k : ℕ) → count ≤ k → drop k l ≡ replicate (128 - k) 0
+    blank k h =
+        let ls : length (take count l) ≡ count = standing-length l count w in
+        let z : length (take count l) + (k - count) ≡ k = omega arith in
+        let y : (128 - length (take count l)) - (k - count) ≡ 128 - k = omega arith in
+        let e : drop k l ≡ drop (length (take count l) + (k - count)) (take count l ++ replicate (128 - length (take count l)) 0) = λ i. drop (sym z i) (w.filled i) in
+        e ∙ drop-append-add (take count l) (replicate (128 - length (take count l)) 0) (k - count)
+        ∙ drop-replicate (k - count) (128 - length (take count l)) 0 ∙ ap (λ (m : ℕ). replicate m 0) y
+
+    pub joined_on : count ≤ top → Joined t (take count l) top stored
+    joined_on h = record { number = its_number; standing = λ q. stored_is ∙ (λ i. joined t (take count l) ++ blank top h i) ∙ ap (λ (m : ℕ). joined t (take count l) ++ replicate (128 - m) 0) its_number }
+
+    pub joined_back : top < count → (new : List ℕ) → new ≡ replicate (length (take (count - top) (drop top stored))) 0 → Joined t (take count l) top (put_mid top (count - top) stored new)
+    joined_back h new e =
+        let j : List ℕ = joined t (take count l) in
+        let lj : length j ≡ top = sym its_number in
+        let front : take top stored ≡ j = ap (take top) stored_is ∙ take_at j (drop top l) top lj in
+        let behind : drop top stored ≡ drop top l = ap (drop top) stored_is ∙ drop_at j (drop top l) top lj in
+        let z : top + (count - top) ≡ count = omega arith in
+        let rest : drop (count - top) (drop top stored) ≡ replicate (128 - count) 0 = ap (drop (count - top)) behind ∙ drop-drop (count - top) top l ∙ ap (λ (k : ℕ). drop k l) z ∙ blank count (omega arith) in
+        let ld : length (drop top l) ≡ 128 - top = length-drop top l ∙ ap (λ (k : ℕ). k - top) w.size in
+        let ln : length (take (count - top) (drop top stored)) ≡ count - top = ap (λ (x : List ℕ). length (take (count - top) x)) behind ∙ length-take-le (count - top) (drop top l) (omega (arith, w.within)) in
+        let y : (count - top) + (128 - count) ≡ 128 - length j = omega (arith, w.within) in
+        record {
+          number = its_number;
+          standing = λ q.
+              (λ i. front i ++ ((e ∙ ap (λ (k : ℕ). replicate k 0) ln) i ++ rest i))
+              ∙ ap (λ (x : List ℕ). j ++ x) (replicate-append-replicate (count - top) (128 - count) 0 ∙ ap (λ (k : ℕ). replicate k 0) y);
+        }

@@ -5,6 +5,7 @@ use mathlib.Core.Bool.{Bool, true, false, cond, not, ◌&&◌}
 use mathlib.Core.List.{List, [], ◌∷◌}
 use native.Mathlib.Omega.{arith}
 use mir.Val.{bool_byte}
+use mir.Val.{bool_byte}
 use lib.Dec.{ltb, leb, eqb}
 use lib.ListN.{length, get_or}
 use borrow.Author.Tests.{eqb-true, eqb-false, ltb-true, ltb-false, leb-true, leb-false, le-leb, lt-leb}
@@ -106,6 +107,15 @@ bit_most b = by_test b (λ k. simp k (omega arith)) (λ k. simp k (omega arith))
 
 pub bit_one : (p : ℕ) (b : Bool) → p ≡ bit b → p ≤ 1
 bit_one p b e = let m = bit_most b in omega arith
+
+-- a test that the code counts
+pub as_bit : (b : Bool) → bool_byte b ≡ bit b
+unfolding bit
+as_bit true = refl
+as_bit false = refl
+
+pub byte_one : (b : Bool) → bool_byte b ≤ 1
+byte_one b = bit_one _ b (as_bit b)
 
 -- all of a number, or none of it
 pub times_bit : (n : ℕ) (b : Bool) → n * bit b ≡ cond b n 0

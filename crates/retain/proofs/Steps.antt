@@ -11,9 +11,8 @@ use borrow.Author.Tests.{ltb-true, ltb-false}
 use Rattle.chunk.specs.Contents.{start_of}
 use Rattle.chunk.specs.Entry.{keep}
 use Rattle.laws.proofs.Tests.{by_test}
-use Rattle.retain.specs.declared.Keep.TheVariants.{Open, Shut}
 use Rattle.retain.specs.Frontier.{is_open}
-use Rattle.retain.specs.Keep.{time_kept}
+use Rattle.retain.specs.Keep.{is_shut, time_passes}
 use Rattle.retain.specs.Layers.{bit, has_diff, EndsStep}
 use Rattle.laws.specs.Picked.{count_kept}
 use Rattle.retain.proofs.Counts.{count_most}
@@ -71,22 +70,16 @@ open_count p times i (suc n) h =
     ap (λ (l : List ℕ). length (keep p (take (suc n) l))) d
     ∙ by_test (p (get_or times i 0)) (λ k. simp (k, ih)) (λ k. simp (k, ih))
 
-module _ (times corners diff_ends : List ℕ) where
-  -- of an extract, where each has a diff
-  module _ (i n : ℕ) (h : i + n ≤ length times) (full : (k : ℕ) → i ≤ k → k < i + n → has_diff diff_ends k ≡ true) where
-    pub count_open : length (keep (is_open corners) (take n (drop i times))) ≡ count_kept (time_kept Open times corners diff_ends) i n
-    count_open =
-        open_count (is_open corners) times i n h
-        ∙ count_same (λ (k : ℕ). is_open corners (get_or times k 0)) (time_kept Open times corners diff_ends) i n (λ k a b. let q : has_diff diff_ends k ≡ true = full k a b in simp q)
+-- the open ones, and the others
+pub open_times : (corners times : List ℕ) (i n : ℕ) → i + n ≤ length times → length (keep (is_open corners) (take n (drop i times))) ≡ count_kept (time_passes (is_open corners) times) i n
+open_times corners times i n h = open_count (is_open corners) times i n h
 
-    pub count_shut : n - length (keep (is_open corners) (take n (drop i times))) ≡ count_kept (time_kept Shut times corners diff_ends) i n
-    count_shut =
-        let p : ℕ → Bool = λ (k : ℕ). is_open corners (get_or times k 0) in
-        let o = open_count (is_open corners) times i n h in
-        let both = count_others p i n in
-        let s : count_kept (λ (k : ℕ). not (p k)) i n ≡ count_kept (time_kept Shut times corners diff_ends) i n =
-        count_same (λ (k : ℕ). not (p k)) (time_kept Shut times corners diff_ends) i n (λ k a b. let q : has_diff diff_ends k ≡ true = full k a b in simp q) in
-        omega arith
+pub shut_times : (corners times : List ℕ) (i n : ℕ) → i + n ≤ length times → n - length (keep (is_open corners) (take n (drop i times))) ≡ count_kept (time_passes (is_shut corners) times) i n
+shut_times corners times i n h =
+    let p : ℕ → Bool = time_passes (is_open corners) times in
+    let o = open_count (is_open corners) times i n h in
+    let both : count_kept (time_passes (is_shut corners) times) i n + count_kept p i n ≡ n = count_others p i n in
+    omega arith
 
 -- ---- the same as code has it
 

@@ -14,7 +14,6 @@ use Rattle.laws.proofs.OneChunk.{front_is_chunk}
 use Rattle.laws.proofs.Whole.{of_none}
 use Rattle.meld.specs.Copy.{copied}
 use Rattle.meld.proofs.Copy.{copied_chunk}
-use Rattle.retain.specs.declared.Keep.{Keep}
 use Rattle.retain.specs.Keep.{time_kept, retained_of}
 use Rattle.laws.specs.Picked.{pick}
 use Rattle.retain.proofs.Filtered.{length-pick}
@@ -29,16 +28,16 @@ pick_whole m i (x ∷ l) h =
     (λ k. let q : length (pick m (suc i) l) ≡ suc (length l) = simp k at h in
     let e = length-pick m (suc i) l in let b = count_most m (suc i) (length l) in absurd (omega arith))
 
-module _ (k : Keep) (corners w : List ℕ) (formed : well_formed w ≡ true) where
-  all_stay : length (retained_of k corners w) ≡ nt w → retained_of k corners w ≡ entries w
+module _ (p : ℕ → Bool) (w : List ℕ) (formed : well_formed w ≡ true) where
+  all_stay : length (retained_of p w) ≡ nt w → retained_of p w ≡ entries w
   unfolding retained_of
-  all_stay h = pick_whole (time_kept k (time_body w) corners (diff_end_body w)) 0 (entries w) (h ∙ sym (front_is_chunk w formed).counted)
+  all_stay h = pick_whole (time_kept p (time_body w) (diff_end_body w)) 0 (entries w) (h ∙ sym (front_is_chunk w formed).counted)
 
   -- all stay: the front of the words as it is
-  pub whole_chunk : (out : List ℕ) (n : ℕ) → length (retained_of k corners w) ≡ nt w → n ≡ size w → size w ≤ length w → size w ≤ length out
-      → copied out (take n w) ≡ over (chunk_of (retained_of k corners w)) out
-  whole_chunk out n h e a b = copied_chunk w formed out n e a b ∙ ap (λ (es : List Entry). over (chunk_of es) out) (sym (all_stay h))
+  pub whole_chunk : (out src : List ℕ) → length (retained_of p w) ≡ nt w → src ≡ take (size w) w → size w ≤ length w → size w ≤ length out
+      → copied out src ≡ over (chunk_of (retained_of p w)) out
+  whole_chunk out src h e a b = ap (copied out) e ∙ copied_chunk w formed out (size w) refl a b ∙ ap (λ (es : List Entry). over (chunk_of es) out) (sym (all_stay h))
 
   -- none stays: the empty table
-  pub no_chunk : (out : List ℕ) → length (retained_of k corners w) ≡ 0 → 4 ≤ length out → with_table 0 0 0 0 out ≡ over (chunk_of (retained_of k corners w)) out
-  no_chunk out h b = of_none (retained_of k corners w) out h b
+  pub no_chunk : (out : List ℕ) → length (retained_of p w) ≡ 0 → 4 ≤ length out → with_table 0 0 0 0 out ≡ over (chunk_of (retained_of p w)) out
+  no_chunk out h b = of_none (retained_of p w) out h b

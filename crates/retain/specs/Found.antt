@@ -1,12 +1,10 @@
 -- The frontier as the code hands it on (document 01: "A frontier holds at most 128 corners"; "unused places read zero in every answer"), and
 -- how the kept times' corners are found: a time among the corners of those before it; or again and again the least open time whose tick is
 -- below the last corner's.
-use Rattle.std.specs.Prelude.{ℕ, ◌≤◌, ◌<◌, ◌≡◌, Bool, true, false, not, cond, ◌&&◌, ◌||◌, List, [], ◌∷◌, ltb, leb, length, take, get_or}
+use Rattle.std.specs.Prelude.{ℕ, ◌≤◌, ◌<◌, ◌≡◌, Bool, true, false, not, cond, ◌&&◌, List, [], ◌∷◌, Option, None, Some, ltb, leb, length, take, get_or}
 use Rattle.chunk.specs.Entry.{ignition, tick, keep}
 use Rattle.chunk.specs.Time.{earlier, at_or_below}
 use Rattle.retain.specs.declared.Frontier.{Frontier}
-use Rattle.retain.specs.declared.Least.{Least}
-use Rattle.retain.specs.declared.Corners.{Corners}
 use Rattle.retain.specs.declared.Kept.{Kept}
 use Rattle.retain.specs.Frontier.{is_open, ordered, places, most, insert_time, least_of}
 
@@ -18,28 +16,38 @@ frontier_with corners = record { count = length corners; corners = places corner
 abbrev pub empty_frontier : Frontier
 empty_frontier = frontier_with []
 
+-- whether a time sorts before the best so far, if there is one
+abbrev pub sooner : ℕ → Option ℕ → Bool
+sooner t None = true
+sooner t (Some best) = earlier t best
+
 -- whether an open time with a tick below the limit sorts before the best so far
-abbrev pub better_than : List ℕ → ℕ → Bool → ℕ → ℕ → Bool
-better_than corners limit found best t = ltb (tick t) limit && ((not found || earlier t best) && is_open corners t)
+abbrev pub better_than : List ℕ → ℕ → Option ℕ → ℕ → Bool
+better_than corners limit best t = ltb (tick t) limit && (sooner t best && is_open corners t)
 
 -- the best of the times that are left
-unfoldable pub least_from : List ℕ → ℕ → List ℕ → Bool → ℕ → Least
-least_from corners limit [] found best = record { found = found; time = best }
-least_from corners limit (t ∷ ts) found best =
-    cond (better_than corners limit found best t) (least_from corners limit ts true t) (least_from corners limit ts found best)
+unfoldable pub least_from : List ℕ → ℕ → List ℕ → Option ℕ → Option ℕ
+least_from corners limit [] best = best
+least_from corners limit (t ∷ ts) best =
+    cond (better_than corners limit best t) (least_from corners limit ts (Some t)) (least_from corners limit ts best)
 
 -- a frontier of these corners, where they are not too many
-abbrev pub corners_as : Bool → List ℕ → Corners
-corners_as true l = record { fits = true; frontier = frontier_with l }
-corners_as false l = record { fits = false; frontier = empty_frontier }
+abbrev pub corners_as : Bool → List ℕ → Option Frontier
+corners_as true l = Some (frontier_with l)
+corners_as false l = None
 
 -- by their number
-abbrev pub corners_of : List ℕ → Corners
+abbrev pub corners_of : List ℕ → Option Frontier
 corners_of l = corners_as (leb (length l) most) l
 
+-- with a frontier, where there is one, a number
+abbrev pub kept_with : ℕ → Option Frontier → Option Kept
+kept_with n None = None
+kept_with n (Some f) = Some (record { number = n; frontier = f })
+
 -- of the open times: how many, and their frontier
-abbrev pub kept_by : List ℕ → Kept
-kept_by ts = record { fits = (corners_of (least_of ts)).fits; number = length ts; frontier = (corners_of (least_of ts)).frontier }
+abbrev pub kept_by : List ℕ → Option Kept
+kept_by ts = kept_with (length ts) (corners_of (least_of ts))
 
 -- the corners before place n, and those from it on, by a time's ignition
 pub record PartedAt (corners : List ℕ) (t n : ℕ) : Type 0 where

@@ -9,21 +9,33 @@ use Rattle.retain.specs.Frontier.{is_open}
 use Rattle.retain.specs.Layers.{has_diff, ListsLeft}
 use Rattle.laws.specs.Picked.{list_kept, pick}
 
--- whether time i stays, if it has a diff
-abbrev pub keeps_at : Keep → List ℕ → List ℕ → ℕ → Bool
-keeps_at All times corners i = true
-keeps_at Open times corners i = is_open corners (get_or times i 0)
-keeps_at Shut times corners i = not (is_open corners (get_or times i 0))
+-- every time
+abbrev pub all_times : ℕ → Bool
+all_times t = true
 
--- whether time i has a diff and stays
-abbrev pub time_kept : Keep → List ℕ → List ℕ → List ℕ → ℕ → Bool
-time_kept keep times corners diff_ends i = has_diff diff_ends i && keeps_at keep times corners i
+-- the times that are not open
+abbrev pub is_shut : List ℕ → ℕ → Bool
+is_shut corners t = not (is_open corners t)
 
--- the entries of a chunk that stay
-unfoldable pub retained_of : Keep → List ℕ → List ℕ → List Entry
+-- whether a time stays, if it has a diff
+abbrev pub keeps : Keep → ℕ → Bool
+keeps All t = true
+keeps (Open corners) t = is_open corners.times.now t
+keeps (Shut corners) t = is_shut corners.times.now t
+
+-- whether time i passes a test
+abbrev pub time_passes : (ℕ → Bool) → List ℕ → ℕ → Bool
+time_passes p times i = p (get_or times i 0)
+
+-- whether it has a diff too
+abbrev pub time_kept : (ℕ → Bool) → List ℕ → List ℕ → ℕ → Bool
+time_kept p times diff_ends i = has_diff diff_ends i && time_passes p times i
+
+-- the entries of a chunk that stay, by the test of their times
+unfoldable pub retained_of : (ℕ → Bool) → List ℕ → List Entry
 unfolding entries pick
-retained_of keep corners w = pick (time_kept keep (time_body w) corners (diff_end_body w)) 0 (entries w)
+retained_of p w = pick (time_kept p (time_body w) (diff_end_body w)) 0 (entries w)
 
 -- how many keys and values of a chunk have an entry that stays
-abbrev pub ListsOf : Keep → List ℕ → List ℕ → ℕ → ℕ → Type 0
-ListsOf keep corners w k v = ListsLeft (list_kept (time_kept keep (time_body w) corners (diff_end_body w)) (time_end_body w)) (val_end_body w) k v
+abbrev pub ListsOf : (ℕ → Bool) → List ℕ → ℕ → ℕ → Type 0
+ListsOf p w k v = ListsLeft (list_kept (time_kept p (time_body w) (diff_end_body w)) (time_end_body w)) (val_end_body w) k v

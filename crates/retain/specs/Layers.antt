@@ -4,7 +4,6 @@ use Rattle.std.specs.Prelude.{ℕ, zero, suc, ◌<◌, ◌≤◌, ◌≡◌, Boo
 use Rattle.chunk.specs.Words.{limit}
 use Rattle.chunk.specs.Contents.{start_of, table_of}
 use Rattle.laws.specs.Picked.{count_kept, count_up, nodes, item_of, end_of, list_kept, Over}
-use Rattle.retain.specs.Frontier.{ordered}
 
 -- a test as a number
 unfoldable pub bit : Bool → ℕ
@@ -42,11 +41,6 @@ EndsWithin ends n = (i : ℕ) → has_diff ends i ≡ true → start_of ends i <
 -- each end is the one before it or one more
 abbrev pub EndsStep : List ℕ → Type 0
 EndsStep ends = (i : ℕ) → i < length ends → (start_of ends i ≤ get_or ends i 0) × (get_or ends i 0 ≤ suc (start_of ends i))
-
--- what the test of a time asks for: ends that step, and corners in order
-pub record Ready (corners diff_ends : List ℕ) : Type 0 where
-  pub steps : EndsStep diff_ends
-  pub stairs : ordered corners ≡ true
 
 -- each time has a diff
 abbrev pub AllDiffs : List ℕ → List ℕ → Type 0

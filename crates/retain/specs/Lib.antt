@@ -7,3 +7,4 @@ pub mod Keep
 pub mod Found
 pub mod Answer
 pub mod Records
+pub mod Source

@@ -6,30 +6,26 @@ use mathlib.Core.List.{List, map, append_assoc}
 use native.Mathlib.Omega.{arith}
 use lib.ListN.{length, drop, length-map}
 use borrow.Author.Tests.{leb-true, eqb-true}
-use Rattle.chunk.specs.declared.Contents.{Contents}
 use Rattle.chunk.specs.declared.Range.{Range}
-use Rattle.chunk.specs.Contents.{Placed, start_of}
+use Rattle.chunk.specs.Contents.{contents_in, start_of}
 use Rattle.chunk.specs.Entry.{Entry, every, stands, rising, keep}
 use Rattle.chunk.specs.Bodies.{keys, vals, times, diffs, val_ends, time_ends, diff_ends, chunk_of}
-use Rattle.chunk.specs.Words.{well_formed, settled, entries, key_body, val_end_body, val_body, time_end_body, time_body, diff_body, nt, nd, size, limit}
-use Rattle.chunk.proofs.Placed.{cut_keys, cut_val_ends, cut_vals, cut_time_ends, cut_times_lem, cut_diffs, length_keys, length_vals, length_times, length_diffs}
+use Rattle.chunk.specs.Words.{well_formed, settled, entries, key_body, val_end_body, val_body, time_end_body, time_body, diff_body, nt, nd, limit}
+use Rattle.chunk.proofs.Placed.{length_keys, length_vals, length_times, length_diffs}
 use Rattle.laws.proofs.OneChunk.{front_is_chunk, settled_stands}
 use Rattle.laws.proofs.Frame.{parts}
 use Rattle.laws.specs.Picked.{count_up, list_kept, pick, part}
-use Rattle.split.specs.Ranges.{within, Span, cut_ends, Layered, Ranged, ranges_out}
+use Rattle.split.specs.Ranges.{within, Span, cut_ends, ranges_out}
 use Rattle.laws.proofs.Picked.{picked-keys, picked-val_ends, picked-vals, picked-time_ends, diff_ends_up, keep_all}
 use Rattle.split.proofs.Records.{take-every, drop-every}
-use Rattle.laws.proofs.Bodies.{keys_in_lem, val_ends_in_lem, vals_in_lem, time_ends_in_lem, times_in_lem, diffs_in_lem, over_vals_lem, over_times_lem, keys_few_lem, vals_few_lem, key_part, val_end_part, val_part, time_end_part, time_part, diff_part}
-use Rattle.split.proofs.Spans.{pick-part, part-map, length_part, list_within, range_items, range_ends}
+use Rattle.laws.proofs.Bodies.{its_place, keys_in_lem, val_ends_in_lem, vals_in_lem, time_ends_in_lem, times_in_lem, diffs_in_lem, over_vals_lem, over_times_lem, keys_few_lem, vals_few_lem}
+use Rattle.split.proofs.Spans.{Layered, pick-part, part-map, length_part, list_within, range_items, range_ends}
 
-module _ (w : List ℕ) (f : well_formed w ≡ true) (found : Contents) (p : Placed found w) (s : settled w ≡ true) where
+module _ (w : List ℕ) (f : well_formed w ≡ true) (s : settled w ≡ true) where
   -- its bodies belong together
-  pub its_layers : Layered (key_body w) (val_end_body w) (val_body w) (time_end_body w) (time_body w) (diff_body w)
+  pub its_layers : Layered w
   its_layers =
-      let lk = length_keys found w p in
-      let lv = length_vals found w p in
-      let lt = length_times found w p in
-      let ld = length_diffs found w p in
+      let p = its_place w f in
       let e : nd w ≡ nt w = eqb-true _ _ s in
       let few : nt w ≤ limit = leb-true _ _ (parts w f).few in
       let fk = keys_few_lem w f in
@@ -37,13 +33,17 @@ module _ (w : List ℕ) (f : well_formed w ≡ true) (found : Contents) (p : Pla
       record {
         over_vals = over_vals_lem w f;
         over_times = over_times_lem w f;
-        time_rows = ld ∙ e ∙ sym lt;
+        keys_all = length_keys (contents_in w) w p;
+        vals_all = length_vals (contents_in w) w p;
+        times_all = length_times (contents_in w) w p;
+        diffs_all = length_diffs (contents_in w) w p ∙ e;
+        settles = e;
         few_keys = omega arith;
         few_vals = omega arith;
         few_times = omega arith;
       }
 
-  module _ (ks vs ts : Range) (pk : Span (val_end_body w) vs ks) (pv : Span (time_end_body w) ts vs) (h : ts.upper ≤ length (time_body w)) where
+  module _ (ks vs ts : Range) (pk : Span (val_end_body w) vs ks) (pv : Span (time_end_body w) ts vs) (h : ts.upper ≤ nt w) where
     abbrev es : List Entry
     es = entries w
 
@@ -63,7 +63,7 @@ module _ (w : List ℕ) (f : well_formed w ≡ true) (found : Contents) (p : Pla
     stand = sym (settled_stands w f) ∙ s
 
     few : ts.upper ≤ length es
-    few = let c = (front_is_chunk w f).counted in let l = length_times found w p in omega arith
+    few = let c = (front_is_chunk w f).counted in omega arith
 
     picks : {B : Type 0} (g : List Entry → B) → g fs ≡ g (pick time_stays 0 es)
     picks g = ap g (sym (pick-part time_stays ts.lower ts.upper order (λ k. refl) es))
@@ -111,7 +111,7 @@ module _ (w : List ℕ) (f : well_formed w ≡ true) (found : Contents) (p : Pla
         ∙ ap (part ts.lower ts.upper) (ap (map (λ (e : Entry). e.diff)) (sym (keep_all stands es stand)) ∙ diffs_in_lem w f)
 
     -- the words of the range are its chunk
-    pub its_range : ranges_out (key_body w) (val_end_body w) (val_body w) (time_end_body w) (time_body w) (diff_body w) ks vs ts ≡ chunk_of fs
+    pub its_range : ranges_out w ks vs ts ≡ chunk_of fs
     unfolding chunk_of
     its_range =
         let k : length (keys fs) ≡ ks.upper - ks.lower = ap length out-keys ∙ length_part ks.lower ks.upper (key_body w) (omega (arith, pk.within, its_layers.over_vals.rows)) in
@@ -120,32 +120,9 @@ module _ (w : List ℕ) (f : well_formed w ≡ true) (found : Contents) (p : Pla
         let d : length (diffs fs) ≡ ts.upper - ts.lower = length-map (keep stands fs) (λ (e : Entry). e.diff) ∙ ap length (keep_all stands fs stays) ∙ count in
         sym (simp (k, v, t, d) (simp (out-keys, out-val_ends, out-vals, out-time_ends, out-times, out-diff_ends, out-diffs, append_assoc)))
 
--- the same of the parts that are cut out
-module _ (w : List ℕ) (f : well_formed w ≡ true) (found : Contents) (p : Placed found w) (s : settled w ≡ true) where
-  pub cut_layers : Layered (key_part found w) (val_end_part found w) (val_part found w) (time_end_part found w) (time_part found w) (diff_part found w)
-  cut_layers = rw (cut_keys found w p, cut_val_ends found w p, cut_vals found w p, cut_time_ends found w p, cut_times_lem found w p, cut_diffs found w p) (its_layers w f found p s)
-
-  times_all : length (time_part found w) ≡ nt w
-  times_all = ap length (cut_times_lem found w p) ∙ length_times found w p
-
   -- a range of the times, and the values that have one of them
-  pub times-within : (tr : Range) → tr.upper ≤ nt w → tr.upper ≤ start_of (time_end_part found w) (length (time_end_part found w))
-  times-within tr h = let e = cut_layers.over_times.rises.last in let l = times_all in omega arith
+  pub times-within : (tr : Range) → tr.upper ≤ nt w → tr.upper ≤ start_of (time_end_body w) (length (time_end_body w))
+  times-within tr h = let e = its_layers.over_times.rises.last in let l = its_layers.times_all in omega arith
 
-  pub vals-within : (tr vr : Range) → Span (time_end_part found w) tr vr → vr.upper ≤ start_of (val_end_part found w) (length (val_end_part found w))
-  vals-within tr vr v = let e = cut_layers.over_vals.rises.last in let l = cut_layers.over_times.rows in let b = v.within in omega arith
-
-  pub cut_ranged : (kr vr tr : Range) (room : ℕ) → Span (val_end_part found w) vr kr → Span (time_end_part found w) tr vr → tr.upper ≤ nt w → size w ≤ room
-      → Ranged (key_part found w) (val_end_part found w) (val_part found w) (time_end_part found w) (time_part found w) kr vr tr room
-  cut_ranged kr vr tr room pk pv h r =
-      let lk : length (key_part found w) ≡ _ = ap length (cut_keys found w p) ∙ length_keys found w p in
-      let lv : length (val_part found w) ≡ _ = ap length (cut_vals found w p) ∙ length_vals found w p in
-      let lt = times_all in
-      let e : nd w ≡ nt w = eqb-true _ _ s in
-      record { keys_in = pk; vals_in = pv; times_in = omega arith; fits = omega arith }
-
-  pub cut_range : (kr vr tr : Range) → Span (val_end_part found w) vr kr → Span (time_end_part found w) tr vr → tr.upper ≤ nt w
-      → ranges_out (key_part found w) (val_end_part found w) (val_part found w) (time_end_part found w) (time_part found w) (diff_part found w) kr vr tr ≡ chunk_of (part tr.lower tr.upper (entries w))
-  cut_range kr vr tr =
-      rw (cut_keys found w p, cut_val_ends found w p, cut_vals found w p, cut_time_ends found w p, cut_times_lem found w p, cut_diffs found w p)
-      (λ pk pv h. its_range w f found p s kr vr tr pk pv (let l = length_times found w p in omega arith))
+  pub vals-within : (tr vr : Range) → Span (time_end_body w) tr vr → vr.upper ≤ start_of (val_end_body w) (length (val_end_body w))
+  vals-within tr vr v = let e = its_layers.over_vals.rises.last in let l = its_layers.over_times.rows in let b = v.within in omega arith

@@ -9,13 +9,14 @@ use lib.Dec.{ltb, leb}
 use lib.ListN.{length, get_or, take, drop, set, length-map, length-append, length-drop, get_or-eq_default}
 use lib.Seq.{take-nil, drop-nil, length-take-le, get_or-take, get_or-drop, sets}
 use borrow.Author.Tests.{lt-ltb, le-ltb, le-leb, lt-leb, ltb-true, ltb-false, leb-true, leb-false}
+use Rattle.std.specs.List.Sorted.{IsPartitionPoint}
 use Rattle.chunk.specs.declared.Range.{Range}
-use Rattle.chunk.specs.Words.{rises_from}
+use Rattle.chunk.specs.Words.{rises_from, limit, nk, nv, nt, nd, key_body, val_end_body, val_body, time_end_body, time_body, diff_body}
 use Rattle.chunk.specs.declared.Contents.{Contents}
-use Rattle.chunk.specs.Contents.{start_of, layout_within}
+use Rattle.chunk.specs.Contents.{start_of, layout_of}
 use Rattle.laws.proofs.Tests.{by_test, and_left, and_right}
-use Rattle.laws.specs.Picked.{count_kept, pick, count_up, nodes, item_of, end_of, list_kept, part}
-use Rattle.split.specs.Ranges.{within, EndsParted, Span, cut_ends, range_out, Layered, Ranged}
+use Rattle.laws.specs.Picked.{count_kept, pick, count_up, nodes, item_of, end_of, list_kept, part, Over}
+use Rattle.split.specs.Ranges.{within, EndsParted, Span, cut_ends, range_out, Ranged}
 use Rattle.laws.proofs.Picked.{nodes-pick, pick-map, length-count_up}
 use Rattle.laws.proofs.Ends.{start_below, start_as}
 use Rattle.laws.proofs.Stores.{fill_two, fill_three, sets_past}
@@ -180,6 +181,15 @@ module _ (m : ℕ → Bool) (items ends : List ℕ) (rows : length items ≡ len
 
 -- ---- the span of a range
 
+-- where the ends at or below a number part from the others
+pub ends_parted : (ends : List ℕ) (number n : ℕ) → n ≤ length ends → IsPartitionPoint (λ (e : ℕ). leb e number ≡ true) (λ (e : ℕ). leb e number ≡ false) ends n → EndsParted ends number n
+ends_parted ends number n h p =
+    record {
+      within = h;
+      early = λ k l. leb-true _ _ (p.0 k 0 (omega arith) l);
+      late = λ k l g. leb-false _ _ (p.1 k 0 l g);
+    }
+
 -- some list ends above what is below the last end
 parted_inside : (ends : List ℕ) (number n count : ℕ) → EndsParted ends number n → length ends ≡ count → number < start_of ends count → n < length ends
 parted_inside ends number n zero p e h = absurd (omega arith)
@@ -299,13 +309,27 @@ module _ (times diffs : List ℕ) (r : Range) (rows : length diffs ≡ length ti
       let b = length-append (count_up 0 (r.upper - r.lower)) (part r.lower r.upper diffs) in
       omega arith
 
+-- the bodies of a settled chunk, which belong together: lists below the keys and below the values, and one diff to a time
+pub record Layered (w : List ℕ) : Type 0 where
+  pub over_vals : Over (key_body w) (val_end_body w) (length (val_body w))
+  pub over_times : Over (val_body w) (time_end_body w) (length (time_body w))
+  pub keys_all : length (key_body w) ≡ nk w
+  pub vals_all : length (val_body w) ≡ nv w
+  pub times_all : length (time_body w) ≡ nt w
+  pub diffs_all : length (diff_body w) ≡ nt w
+  pub settles : nd w ≡ nt w
+  pub few_keys : nk w ≤ limit
+  pub few_vals : nv w ≤ limit
+  pub few_times : nt w ≤ limit
+
 -- the output's places
-pub range_cuts : {keys val_ends vals time_ends times diffs : List ℕ} {ks vs ts : Range} {room : ℕ} {lay : Contents}
-    → Layered keys val_ends vals time_ends times diffs → Ranged keys val_ends vals time_ends times ks vs ts room
-    → lay ≡ layout_within (ks.upper - ks.lower) (vs.upper - vs.lower) (ts.upper - ts.lower) (ts.upper - ts.lower)
+pub range_cuts : {w : List ℕ} {ks vs ts : Range} {room : ℕ} {lay : Contents}
+    → Layered w → Ranged w ks vs ts room
+    → lay ≡ layout_of (ks.upper - ks.lower) (vs.upper - vs.lower) (ts.upper - ts.lower) (ts.upper - ts.lower)
     → OutCuts lay (ks.upper - ks.lower) (vs.upper - vs.lower) (ts.upper - ts.lower) room
 range_cuts {ks = ks} {vs = vs} {ts = ts} {room = room} {lay = lay} l r e =
     let a = r.keys_in.within in let b = r.vals_in.within in let d = r.times_in in
     let fk = l.few_keys in let fv = l.few_vals in let ft = l.few_times in
     let rk = l.over_vals.rows in let rv = l.over_times.rows in let f = r.fits in
+    let lk = l.keys_all in let lv = l.vals_all in let s = l.settles in
     out_cuts lay (ks.upper - ks.lower) (vs.upper - vs.lower) (ts.upper - ts.lower) room e (omega arith) (omega arith) (omega arith) (omega arith)

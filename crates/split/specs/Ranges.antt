@@ -1,9 +1,9 @@
 -- A split of a settled chunk (document 01: "First n records, and the rest"): a range of the records is a range of each layer.
-use Rattle.std.specs.Prelude.{ℕ, suc, ◌+◌, ◌-◌, ◌*◌, ◌<◌, ◌≤◌, min, ◌≡◌, Bool, ◌&&◌, List, ◌++◌, map, leb, ltb, length, get_or}
+use Rattle.std.specs.Prelude.{ℕ, suc, ◌-◌, ◌<◌, ◌≤◌, min, Bool, ◌&&◌, List, ◌++◌, map, leb, ltb, length, get_or}
 use Rattle.chunk.specs.declared.Range.{Range}
-use Rattle.chunk.specs.Words.{limit, table_size}
+use Rattle.chunk.specs.Words.{nt, size, key_body, val_end_body, val_body, time_end_body, time_body, diff_body}
 use Rattle.chunk.specs.Contents.{table_of}
-use Rattle.laws.specs.Picked.{count_up, Over, part}
+use Rattle.laws.specs.Picked.{count_up, part}
 
 -- whether an index is within a range
 abbrev pub within : ℕ → ℕ → ℕ → Bool
@@ -33,26 +33,17 @@ cut_ends r ends = map (λ (e : ℕ). min e r.upper - r.lower) ends
 abbrev pub range_out : List ℕ → List ℕ → Range → Range → List ℕ
 range_out items ends below here = part here.lower here.upper items ++ cut_ends below (part here.lower here.upper ends)
 
--- six bodies that belong together: lists below the keys and below the values, and one diff to a time
-pub record Layered (keys val_ends vals time_ends times diffs : List ℕ) : Type 0 where
-  pub over_vals : Over keys val_ends (length vals)
-  pub over_times : Over vals time_ends (length times)
-  pub time_rows : length diffs ≡ length times
-  pub few_keys : length keys ≤ limit
-  pub few_vals : length vals ≤ limit
-  pub few_times : length times ≤ limit
+-- a range of each layer of a chunk, and room for the whole chunk
+pub record Ranged (w : List ℕ) (ks vs ts : Range) (room : ℕ) : Type 0 where
+  pub keys_in : Span (val_end_body w) vs ks
+  pub vals_in : Span (time_end_body w) ts vs
+  pub times_in : ts.upper ≤ nt w
+  pub fits : size w ≤ room
 
--- a range of each layer, and room for its chunk
-pub record Ranged (keys val_ends vals time_ends times : List ℕ) (ks vs ts : Range) (room : ℕ) : Type 0 where
-  pub keys_in : Span val_ends vs ks
-  pub vals_in : Span time_ends ts vs
-  pub times_in : ts.upper ≤ length times
-  pub fits : table_size + 2 * length keys + 2 * length vals + 2 * length times + length times ≤ room
-
--- the words of a range of six bodies: the table, the keys and their ends, the values and theirs, the times, theirs and the diffs
-abbrev pub ranges_out : List ℕ → List ℕ → List ℕ → List ℕ → List ℕ → List ℕ → Range → Range → Range → List ℕ
-ranges_out keys val_ends vals time_ends times diffs ks vs ts =
+-- the words of a range of a chunk's bodies: the table, the keys and their ends, the values and theirs, the times, theirs and the diffs
+abbrev pub ranges_out : List ℕ → Range → Range → Range → List ℕ
+ranges_out w ks vs ts =
     let n : ℕ = ts.upper - ts.lower in
     table_of (ks.upper - ks.lower) (vs.upper - vs.lower) n n
-    ++ (range_out keys val_ends vs ks ++ (range_out vals time_ends ts vs
-    ++ (part ts.lower ts.upper times ++ (count_up 0 n ++ part ts.lower ts.upper diffs))))
+    ++ (range_out (key_body w) (val_end_body w) vs ks ++ (range_out (val_body w) (time_end_body w) ts vs
+    ++ (part ts.lower ts.upper (time_body w) ++ (count_up 0 n ++ part ts.lower ts.upper (diff_body w)))))

@@ -2,30 +2,19 @@
 ghost use Rattle.std.specs.Prelude.{◌≡◌, true, map, ℕ, ◌+◌, ◌-◌, ◌≤◌, ◌<◌, length, get_or};
 ghost use Rattle.std.proofs.lemmas.List.Edits.{sets};
 ghost use Rattle.chunk.specs.Words.{rises_from, well_formed, settled, size, over, entries, nt};
-ghost use Rattle.chunk.specs.Contents.{start_of, Placed};
+ghost use Rattle.chunk.specs.Contents.{start_of};
 ghost use Rattle.chunk.specs.Bodies.{chunk_of};
 ghost use Rattle.laws.specs.Picked.{count_up, part};
-ghost use Rattle.split.specs.Ranges.{EndsParted, Span, range_out, Layered, Ranged, ranges_out};
+ghost use Rattle.split.specs.Ranges.{EndsParted, Span, range_out, Ranged, ranges_out};
 
-use chunk::{Contents, Range};
+use chunk::{Chunk, Range};
 
 // How many lists end at or below a number.
 fn lists_to(ends: &[u64], n: usize) -> usize
     requires { rises_from 0 ends.now ≡ true }
     ensures { EndsParted ends.now n result }
 {
-    let mut low = 0;
-    let mut high = ends.len();
-    while low < high {
-        let middle = low + (high - low) / 2;
-        let end = ends[middle] as usize;
-        if n < end {
-            high = middle;
-        } else {
-            low = middle + 1;
-        }
-    }
-    low
+    ends.partition_point(|end| *end as usize <= n)
 }
 
 // The lists that have an item of a range.
@@ -45,14 +34,13 @@ fn span_of(ends: &[u64], items: Range) -> Range
 }
 
 // Writes ends, each less a number, from a place on.
+// Kept: `meld::copy_shifted` adds in 64 bits; by it each of these differences would have to be shown to be a sum that wraps.
 fn write_less(ends: &[u64], less: usize, out: &mut [u64], at: usize)
     requires { (at + length ends.now ≤ length out.old) × ((k : ℕ) → k < length ends.now → less ≤ get_or ends.now k 0) }
     ensures { out.new ≡ sets out.old at (map (λ (e : ℕ). e - less) ends.now) }
 {
-    let mut i = 0;
-    while i < ends.len() {
-        out[at + i] = ends[i] - less as u64;
-        i += 1;
+    for (i, end) in ends.iter().enumerate() {
+        out[at + i] = *end - less as u64;
     }
 }
 
@@ -87,88 +75,64 @@ fn write_run(times: &[u64], diffs: &[u64], out: &mut [u64])
 }
 
 // Writes the table of a range of each layer, and each into its own part.
-fn write_ranges(
-    keys: &[u64],
-    val_ends: &[u64],
-    vals: &[u64],
-    time_ends: &[u64],
-    times: &[u64],
-    diffs: &[u64],
-    keys_in: Range,
-    vals_in: Range,
-    times_in: Range,
-    out: &mut [u64],
-)
-    requires layered { Layered keys.now val_ends.now vals.now time_ends.now times.now diffs.now }
-    requires ranged { Ranged keys.now val_ends.now vals.now time_ends.now times.now keys_in vals_in times_in (length out.old) }
-    ensures { out.new ≡ over (ranges_out keys.now val_ends.now vals.now time_ends.now times.now diffs.now keys_in vals_in times_in) out.old }
+// Kept: a clause, since a step of a walk takes chunks that are not; a type for it would hold a Chunk and nothing else.
+fn write_ranges(chunk: Chunk, keys_in: Range, vals_in: Range, times_in: Range, out: &mut [u64])
+    requires words_value { (well_formed chunk.words.now ≡ true) × (settled chunk.words.now ≡ true) }
+    requires ranged { Ranged chunk.words.now keys_in vals_in times_in (length out.old) }
+    ensures { out.new ≡ over (ranges_out chunk.entry.words.now keys_in vals_in times_in) out.old }
 {
     let lo = times_in.lower;
     let hi = times_in.upper;
     let nk = keys_in.upper - keys_in.lower;
     let nv = vals_in.upper - vals_in.lower;
     let nt = hi - lo;
-    let to = chunk::layout(nk, nv, nt, nt);
-    let keys_at = to.keys_at;
-    let vals_at = to.vals_at;
-    let times_at = to.times_at;
-    let end = to.size;
+    let to = chunk::places(nk, nv, nt, nt);
     chunk::write_table(out, nk, nv, nt, nt);
-    write_range(keys, val_ends, vals_in, keys_in, &mut out[keys_at..vals_at]);
     write_range(
-        vals,
-        time_ends,
+        chunk.keys(),
+        chunk.val_ends(),
+        vals_in,
+        keys_in,
+        &mut out[to.keys_at..to.vals_at],
+    );
+    write_range(
+        chunk.vals(),
+        chunk.time_ends(),
         times_in,
         vals_in,
-        &mut out[vals_at..times_at],
+        &mut out[to.vals_at..to.times_at],
     );
-    write_run(&times[lo..hi], &diffs[lo..hi], &mut out[times_at..end]);
+    write_run(
+        &chunk.times()[lo..hi],
+        &chunk.diffs()[lo..hi],
+        &mut out[to.times_at..to.size],
+    );
 }
 
 // Writes the chunk of a range of a settled chunk's entries.
-fn retain_range(words: &[u64], found: Contents, range: Range, out: &mut [u64])
-    requires words_value { (well_formed words.now ≡ true) × (Placed found words.now × (settled words.now ≡ true)) }
-    requires lower_lt_upper { (range.lower < range.upper) × ((range.upper ≤ nt words.now) × (size words.now ≤ length out.old)) }
-    ensures { out.new ≡ over (chunk_of (part range.lower range.upper (entries words.now))) out.old }
+fn retain_range(chunk: Chunk, range: Range, out: &mut [u64])
+    requires words_value { (well_formed chunk.words.now ≡ true) × (settled chunk.words.now ≡ true) }
+    requires lower_lt_upper { (range.lower < range.upper) × ((range.upper ≤ nt chunk.words.now) × (size chunk.words.now ≤ length out.old)) }
+    ensures { out.new ≡ over (chunk_of (part range.lower range.upper (entries chunk.entry.words.now))) out.old }
 {
-    let keys_at = found.keys_at;
-    let val_ends_at = found.val_ends_at;
-    let vals_at = found.vals_at;
-    let time_ends_at = found.time_ends_at;
-    let times_at = found.times_at;
-    let diff_ends_at = found.diff_ends_at;
-    let diffs_at = found.diffs_at;
-    let size = found.size;
-    let keys = &words[keys_at..val_ends_at];
-    let val_ends = &words[val_ends_at..vals_at];
-    let vals = &words[vals_at..time_ends_at];
-    let time_ends = &words[time_ends_at..times_at];
-    let times = &words[times_at..diff_ends_at];
-    let diffs = &words[diffs_at..size];
-    let vals_in = span_of(time_ends, range);
-    let keys_in = span_of(val_ends, vals_in);
-    write_ranges(
-        keys, val_ends, vals, time_ends, times, diffs, keys_in, vals_in, range, out,
-    );
+    let vals_in = span_of(chunk.time_ends(), range);
+    let keys_in = span_of(chunk.val_ends(), vals_in);
+    write_ranges(chunk, keys_in, vals_in, range, out);
 }
 
 // The same, or less: the whole chunk as it is where the range is all of it, the empty one where the range is.
-pub(crate) fn retain_cut(words: &[u64], found: Contents, range: Range, out: &mut [u64])
-    requires words_value { (well_formed words.now ≡ true) × (Placed found words.now × (settled words.now ≡ true)) }
-    requires lower_le_upper { (range.lower ≤ range.upper) × ((range.upper ≤ nt words.now) × (size words.now ≤ length out.old)) }
-    ensures { out.new ≡ over (chunk_of (part range.lower range.upper (entries words.now))) out.old }
+pub(crate) fn retain_cut(chunk: Chunk, range: Range, out: &mut [u64])
+    requires words_value { (well_formed chunk.words.now ≡ true) × (settled chunk.words.now ≡ true) }
+    requires lower_le_upper { (range.lower ≤ range.upper) × ((range.upper ≤ nt chunk.words.now) × (size chunk.words.now ≤ length out.old)) }
+    ensures { out.new ≡ over (chunk_of (part range.lower range.upper (entries chunk.entry.words.now))) out.old }
 {
-    let lower = range.lower;
-    let upper = range.upper;
-    let size = found.size;
-    let all = found.nt;
-    if lower == upper {
+    if range.lower == range.upper {
         chunk::write_table(out, 0, 0, 0, 0);
         return;
     }
-    if upper - lower == all {
-        meld::copy_into(out, &words[..size]);
+    if range.upper - range.lower == chunk.contents.nt {
+        meld::copy_into(out, chunk.whole());
         return;
     }
-    retain_range(words, found, range, out);
+    retain_range(chunk, range, out);
 }

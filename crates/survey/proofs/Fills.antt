@@ -1,112 +1,88 @@
 -- The lent records, one report after another, are the reports in order with the other records as they were.
-use Prim.Native.Nat.{ℕ, zero, suc, ◌+◌, ◌-◌, ◌≤◌, ◌<◌}
+use Prim.Native.Nat.{ℕ, zero, suc, ◌+◌, ◌≤◌, ◌<◌}
 use mathlib.Core.Path.{◌≡◌, refl, sym, ◌∙◌, ap}
-use mathlib.Core.List.{List, [], ◌∷◌, ◌++◌, map, append_assoc}
+use mathlib.Core.List.{List, [], ◌∷◌, ◌++◌, map, append_assoc, append-nil}
 use native.Mathlib.Omega.{arith}
 use native.Mathlib.Numerals.{add-one}
-use lib.ListN.{length, take, drop, set, length-set, take-append-drop}
-use lib.Seq.{take-suc-set, drop-set-lt}
-use lib.Dec.{ltb}
-use borrow.Author.Tests.{ltb-true, ltb-false}
-use Rattle.laws.proofs.Tests.{by_test}
+use lib.ListN.{length, take, drop, set, length-set}
+use lib.Seq.{take-suc-set, take_all}
+use Rattle.std.specs.Prelude.{Some, IsSome, Ok, Err}
+use Rattle.chunk.specs.Words.{key_body}
 use Rattle.reports.specs.Survey.{reports, survey_number}
 use Rattle.reports.specs.Survey.{Report as Said}
-use Rattle.reports.specs.Scratch.{pair_of}
-use Rattle.reports.proofs.Ranges.{pair_none}
-use Rattle.survey.specs.Reports.{record_of, next_in, next_of, keys_of, count_for, surveyed_of, filled_for, filled_of}
+use Rattle.survey.specs.Reports.{record_of, next_in, keys_of, surveyed_of, filled_for, filled_of}
 use Rattle.survey.specs.declared.Report.{Report}
 use Rattle.survey.specs.declared.Spot.{Spot}
 use Rattle.survey.specs.declared.Next.{Next}
-use Rattle.survey.proofs.Nexts.{Turn, turn, pair_whole, count_within}
-use Rattle.survey.proofs.Plans.{taken_keys, taken_count, Accepted, accepted}
+use Rattle.chunk.specs.declared.Refusal.{Refusal}
+use Rattle.survey.proofs.Nexts.{Turn, turn, left, outset, whole, some_next, count_within}
+use Rattle.survey.proofs.Plans.{taken_keys, taken_count, Accepted, accepted, Counted, counted, refuses}
 
--- so many reports from a spot on, stored from an index on
-unfoldable pub fill_from : List ℕ → List ℕ → ℕ → Spot → ℕ → List Report → List Report
-fill_from a b zero s i ws = ws
-fill_from a b (suc t) s i ws = fill_from a b t (next_of a b s).spot (i + 1) (set ws i (next_of a b s).report)
+-- before a record is filled: the reports are those stored and those left, as many as there are records
+pub record Filled (xs ys : List ℕ) (s : Spot) (at : ℕ) (rs : List Report) : Type 0 where
+  pub in_i : s.i ≤ length xs
+  pub in_j : s.j ≤ length ys
+  pub room : at + length (left xs ys s) ≡ length rs
+  pub stored : take at rs ++ map record_of (left xs ys s) ≡ map record_of (reports xs ys)
 
--- the start of both
-abbrev pub outset : Spot
-outset = record { i = 0; j = 0 }
+module _ (xs ys : List ℕ) (rs : List Report) where
+  pub fill_start : length (reports xs ys) ≡ length rs → Filled xs ys outset 0 rs
+  fill_start e = record { in_i = omega arith; in_j = omega arith; room = omega (arith, ap length (whole xs ys)); stored = ap (map record_of) (whole xs ys) }
 
-pub fill_end : (a b : List ℕ) (t : ℕ) (s : Spot) (i : ℕ) (ws : List Report) → t ≡ 0 → fill_from a b t s i ws ≡ ws
-unfolding fill_from
-fill_end a b zero s i ws h = refl
-fill_end a b (suc t) s i ws h = absurd (omega arith)
+  module _ (s : Spot) (at : ℕ) (f : Filled xs ys s at rs) where
+    pub fill_next : at < length rs → IsSome (next_in xs ys s.i s.j)
+    fill_next h = some_next xs ys s f.in_i f.in_j (omega (arith, f.room))
 
-pub fill_step : (a b : List ℕ) (t : ℕ) (s : Spot) (i : ℕ) (ws : List Report) → 0 < t
-    → fill_from a b t s i ws ≡ fill_from a b (t - 1) (next_of a b s).spot (i + 1) (set ws i (next_of a b s).report)
-unfolding fill_from
-fill_step a b zero s i ws h = absurd (omega arith)
-fill_step a b (suc t) s i ws h = let e : t ≡ suc t - 1 = omega arith in ap (λ (n : ℕ). fill_from a b n (next_of a b s).spot (i + 1) (set ws i (next_of a b s).report)) e
+    pub fill_more : (nx : Next) → Some nx ≡ next_in xs ys s.i s.j → at < length rs → Filled xs ys nx.spot (at + 1) (set rs at nx.report)
+    fill_more nx e h =
+        let t : Turn xs ys s nx = turn xs ys s f.in_i f.in_j nx e in
+        let tail : List Report = map record_of (left xs ys nx.spot) in
+        let is : nx.report ≡ record_of t.said = ap (λ (x : Next). x.report) t.is in
+        record {
+          in_i = t.in_i;
+          in_j = t.in_j;
+          room = omega (arith, f.room, ap length t.split, length-set rs at nx.report);
+          stored = ap (λ (n : ℕ). take n (set rs at nx.report) ++ tail) (add-one at)
+              ∙ ap (λ (l : List Report). l ++ tail) (take-suc-set rs at nx.report h)
+              ∙ append_assoc (take at rs) (nx.report ∷ []) tail
+              ∙ ap (λ (r : Report). take at rs ++ (r ∷ tail)) is
+              ∙ ap (λ (l : List Said). take at rs ++ map record_of l) (sym t.split)
+              ∙ f.stored;
+        }
 
--- so many reports from a spot on
-unfoldable reports_by : List ℕ → List ℕ → ℕ → Spot → List Report
-reports_by a b zero s = []
-reports_by a b (suc t) s = (next_of a b s).report ∷ reports_by a b t (next_of a b s).spot
+    none_left : length rs ≤ at → map record_of (left xs ys s) ≡ []
+    none_left h = go (left xs ys s) (omega (arith, f.room))
+      where
+        go : (l : List Said) → length l ≡ 0 → map record_of l ≡ []
+        go [] z = refl
+        go (a ∷ l) z = absurd (omega arith)
 
-fill_is : (a b : List ℕ) (t : ℕ) (s : Spot) (i : ℕ) (ws : List Report) → i + t ≤ length ws
-    → fill_from a b t s i ws ≡ take i ws ++ (reports_by a b t s ++ drop (i + t) ws)
-unfolding fill_from reports_by
-fill_is a b zero s i ws h =
-    let e : i + 0 ≡ i = omega arith in
-    rw e (sym (take-append-drop i ws))
-fill_is a b (suc t) s i ws h =
-    let y : Report = (next_of a b s).report in
-    let p : Spot = (next_of a b s).spot in
-    let e : (i + 1) + t ≡ i + suc t = omega arith in
-    fill_is a b t p (i + 1) (set ws i y) (omega (arith, length-set ws i y))
-    ∙ ap (λ (n : ℕ). take (i + 1) (set ws i y) ++ (reports_by a b t p ++ drop n (set ws i y))) e
-    ∙ ap (λ (l : List Report). take (i + 1) (set ws i y) ++ (reports_by a b t p ++ l)) (drop-set-lt (i + suc t) ws i y (omega arith))
-    ∙ ap (λ (n : ℕ). take n (set ws i y) ++ (reports_by a b t p ++ drop (i + suc t) ws)) (add-one i)
-    ∙ ap (λ (l : List Report). l ++ (reports_by a b t p ++ drop (i + suc t) ws)) (take-suc-set ws i y (omega arith))
-    ∙ append_assoc (take i ws) (y ∷ []) (reports_by a b t p ++ drop (i + suc t) ws)
+    pub fill_end : length rs ≤ at → rs ≡ map record_of (reports xs ys)
+    fill_end h =
+        sym (take_all at rs h) ∙ (sym (append-nil (take at rs)) ∙ ap (λ (l : List Report). take at rs ++ l) (sym (none_left h)) ∙ f.stored)
 
--- they are the reports that are left, as records
-abbrev Left : List ℕ → List ℕ → ℕ → ℕ → List Said
-Left a b i j = pair_of (keys_of a) i (length (keys_of a)) (keys_of b) j (length (keys_of b))
+-- what a survey that is taken says of the lent records
+pub record Told (a b : List ℕ) (lent : List Report) (n : ℕ) : Type 0 where
+  pub room : n ≤ length lent
+  pub counted_keys : length (reports (keys_of a) (keys_of b)) ≡ n
+  pub filled : map record_of (reports (keys_of a) (keys_of b)) ++ drop n lent ≡ filled_of a b lent
 
-by_turns : (a b : List ℕ) (k i j : ℕ) → i ≤ length (keys_of a) → j ≤ length (keys_of b) → (length (keys_of a) - i) + (length (keys_of b) - j) ≤ k
-    → reports_by a b (length (Left a b i j)) (record { i = i; j = j }) ≡ map record_of (Left a b i j)
-unfolding reports_by
-by_turns a b zero i j h m f = rw (pair_none (keys_of a) i (length (keys_of a)) (keys_of b) j (length (keys_of b)) (omega arith) (omega arith))
-by_turns a b (suc k) i j h m f =
-    by_test (ltb (i + j) (length (keys_of a) + length (keys_of b)))
-    (λ t. let u : Turn (keys_of a) (keys_of b) i j (next_in (keys_of a) (keys_of b) i j) = turn (keys_of a) (keys_of b) i j h m (ltb-true (i + j) (length (keys_of a) + length (keys_of b)) t) in
-    let p : Spot = (next_in (keys_of a) (keys_of b) i j).spot in
-    rw u.split
-    (ap (λ (r : Report). r ∷ reports_by a b (length (Left a b p.i p.j)) p) (ap (λ (x : Next). x.report) u.is)
-    ∙ ap (λ (l : List Report). record_of u.said ∷ l) (by_turns a b k p.i p.j u.in_i u.in_j (omega (arith, u.on, u.in_i, u.in_j)))))
-    (λ t. rw (pair_none (keys_of a) i (length (keys_of a)) (keys_of b) j (length (keys_of b)) (omega (arith, ltb-false (i + j) (length (keys_of a) + length (keys_of b)) t)) (omega (arith, ltb-false (i + j) (length (keys_of a) + length (keys_of b)) t))))
+module _ (a b : List ℕ) (lent : List Report) where
+  pub told : (n : ℕ) → Ok n ≡ surveyed_of a b (length lent) → Told a b lent n
+  told n e =
+      let k : Counted a b (length lent) n = counted a b (length lent) n e in
+      let t : Accepted a b (length lent) = accepted a b (length lent) k.number in
+      let p = taken_keys a t.first_well in
+      let q = taken_keys b t.second_well in
+      record {
+        room = omega (arith, k.count, count_within (key_body a) (key_body b), t.room, taken_count a t.first_well, taken_count b t.second_well);
+        counted_keys = rw (p, q) (sym k.count);
+        filled = rw (p, q, k.number, k.count);
+      }
 
-all_turns : (a b : List ℕ) → reports_by a b (length (reports (keys_of a) (keys_of b))) outset ≡ map record_of (reports (keys_of a) (keys_of b))
-all_turns a b =
-    rw (← (pair_whole (keys_of a) (keys_of b)))
-    (by_turns a b (length (keys_of a) + length (keys_of b)) 0 0 (omega arith) (omega arith) (omega arith))
-
--- ---- all of a survey
-pub count_room : (a b : List ℕ) (n : ℕ) → (surveyed_of a b n).count ≤ n
-count_room a b n = go (survey_number a b n) refl
-  where
-    go : (k : ℕ) → survey_number a b n ≡ k → count_for k a b ≤ n
-    go zero e =
-        let t : Accepted a b n = accepted a b n e in
-        rw (← (taken_keys a t.first_in), ← (taken_keys b t.second_in))
-        (omega (arith, count_within (keys_of a) (keys_of b), t.room, taken_count a t.first_in, taken_count b t.second_in))
-    go (suc k) e = omega arith
-
-pub fill_all : (a b : List ℕ) (xs : List Report) → fill_from a b (surveyed_of a b (length xs)).count outset 0 xs ≡ filled_of a b xs
-unfolding fill_from
-fill_all a b xs = go (survey_number a b (length xs)) refl
-  where
-    go : (k : ℕ) → survey_number a b (length xs) ≡ k → fill_from a b (count_for k a b) outset 0 xs ≡ filled_for k a b xs
-    go zero e =
-        let t : Accepted a b (length xs) = accepted a b (length xs) e in
-        let r : length (reports (keys_of a) (keys_of b)) ≤ length xs =
-        omega (arith, count_within (keys_of a) (keys_of b), t.room, taken_count a t.first_in, taken_count b t.second_in) in
-        let z : 0 + length (reports (keys_of a) (keys_of b)) ≡ length (reports (keys_of a) (keys_of b)) = omega arith in
-        rw (← (taken_keys a t.first_in), ← (taken_keys b t.second_in))
-        (fill_is a b (length (reports (keys_of a) (keys_of b))) outset 0 xs (omega arith)
-        ∙ ap (λ (l : List Report). l ++ drop (0 + length (reports (keys_of a) (keys_of b))) xs) (all_turns a b)
-        ∙ ap (λ (m : ℕ). map record_of (reports (keys_of a) (keys_of b)) ++ drop m xs) z)
-    go (suc k) e = refl
+  pub untouched : (r : Refusal) → Err r ≡ surveyed_of a b (length lent) → lent ≡ filled_of a b lent
+  untouched r e = go (survey_number a b (length lent)) (refuses a b (length lent) r e)
+    where
+      go : (n : ℕ) → 0 < n → lent ≡ filled_for n a b lent
+      go zero h = absurd (omega arith)
+      go (suc n) h = refl

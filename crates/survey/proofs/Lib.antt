@@ -1,5 +1,4 @@
 -- Laws of this crate's proofs that belong to no one function.
-pub mod Inputs
 pub mod Nexts
 pub mod Plans
 pub mod Fills

@@ -1,117 +1,167 @@
--- What a survey answers, by the numbers of its two inputs, and how the reports come one by one.
+-- What a survey answers, by what its two inputs are.
 use Prim.Native.Nat.{ℕ, zero, suc, ◌+◌, ◌≤◌, ◌<◌}
 use mathlib.Core.Path.{◌≡◌, refl, sym, ◌∙◌, ap}
 use mathlib.Core.Bool.{Bool, true, false, not}
 use mathlib.Core.List.{List, [], ◌∷◌}
 use native.Mathlib.Omega.{arith}
-use lib.ListN.{length, drop, length-drop}
-use lib.Seq.{length-take-le}
-use lib.Dec.{leb, ltb, eqb}
-use borrow.Author.Tests.{leb-true, lt-ltb, le-ltb, ltb-false}
-use Rattle.laws.proofs.Tests.{by_test, and_left, and_right}
-use Rattle.chunk.specs.Words.{nk, nt, size, table_size, table_fits, well_formed, settled, key_body}
+use lib.ListN.{length}
+use lib.Dec.{ltb, eqb}
+use borrow.Author.Tests.{lt-ltb, le-ltb, ltb-false, ne_eqb}
+use Rattle.std.specs.Prelude.{Result, Ok, Err}
+use Rattle.laws.proofs.Tests.{and_left}
+use Rattle.chunk.specs.declared.Refusal.{Refusal}
+use Rattle.chunk.specs.declared.Refusal.TheVariants.{Ragged, TooMany, Falls, OutOfRange, Malformed, Unsettled, Empty, BadCursor, BadFrontier, TooManyCorners, Overlaps, ScratchShort, OutputShort, Overflows}
+use Rattle.chunk.specs.Answer.{number_of, answer_number}
+use Rattle.chunk.specs.Words.{nk, nt, table_fits, well_formed, settled, key_body}
 use Rattle.chunk.specs.Refusal.{Test, first, refuse, malformed, unsettled, empty}
+use Rattle.chunk.proofs.Refusals.{number_above, refused_by}
+use Rattle.chunk.proofs.Placed.{placed, length_keys}
+use Rattle.chunk.specs.Contents.{contents_in}
 use Rattle.reports.specs.Survey.{reports, survey_number}
-use Rattle.survey.specs.Reports.{keys_of, input_number, surveyed_by, surveyed_of}
-use Rattle.survey.specs.declared.Surveyed.{Surveyed}
+use Rattle.survey.specs.Reports.{keys_of, refusal_of, surveyed_by, surveyed_of}
 
--- three tests of which one fails decide, whatever follows
-three_fail : (x y z : Test) (rest : List Test) → (first (x ∷ y ∷ z ∷ []) ≡ 0 → ⊥) → first (x ∷ y ∷ z ∷ rest) ≡ first (x ∷ y ∷ z ∷ [])
-unfolding first
-three_fail x y z rest h =
-    by_test x.fails (λ t. rw t)
-    (λ t. by_test y.fails (λ u. rw (t, u))
-    (λ u. by_test z.fails (λ v. rw (t, u, v)) (λ v. absurd (h (rw (t, u, v))))))
+-- a refusal is that of its number
+pub refusal_is : (r : Refusal) → refusal_of (number_of r) ≡ r
+unfolding refusal_of
+refusal_is Ragged = refl
+refusal_is TooMany = refl
+refusal_is Falls = refl
+refusal_is OutOfRange = refl
+refusal_is Malformed = refl
+refusal_is Unsettled = refl
+refusal_is Empty = refl
+refusal_is BadCursor = refl
+refusal_is BadFrontier = refl
+refusal_is TooManyCorners = refl
+refusal_is Overlaps = refl
+refusal_is ScratchShort = refl
+refusal_is OutputShort = refl
+refusal_is Overflows = refl
 
--- three that pass leave it to those that follow, and say that each passes
-three_pass : (p q s : Bool) (rest : List Test) → first (refuse 5 p ∷ refuse 6 q ∷ refuse 7 s ∷ []) ≡ 0
-    → (first (refuse 5 p ∷ refuse 6 q ∷ refuse 7 s ∷ rest) ≡ first rest) × (p ≡ false)
+-- an input that is well formed has its keys, as many as its table says
+module _ (w : List ℕ) (h : well_formed w ≡ true) where
+  fits : table_fits w ≡ true
+  unfolding well_formed
+  fits = and_left (table_fits w) _ h
+
+  pub taken_keys : keys_of w ≡ key_body w
+  taken_keys = rw fits
+
+  pub taken_count : length (key_body w) ≡ nk w
+  taken_count = length_keys (contents_in w) w (placed w fits)
+
+-- an input that a survey takes
+pub record Taken (w : List ℕ) : Type 0 where
+  pub well : well_formed w ≡ true
+  pub is_settled : settled w ≡ true
+  pub filled : 0 < nt w
+
+-- the answer of a refusal
+refused : (a b : List ℕ) (r : Refusal) (n : ℕ) → number_of r ≡ n → ◌≡◌ {A = Result ℕ Refusal} (Err r) (surveyed_by n a b)
+refused a b r zero e = absurd (omega (arith, number_above r))
+refused a b r (suc n) e = ap (λ (x : Refusal). Err x) (sym (refusal_is r) ∙ ap refusal_of e)
+
+module _ (a b : List ℕ) (lent : ℕ) where
+  -- the tests from the second input's on, and those of the room
+  abbrev room_tests : List Test
+  room_tests = refuse 12 (ltb lent (nk a + nk b)) ∷ []
+
+  abbrev second_tests : List Test
+  second_tests = malformed b ∷ unsettled b ∷ empty b ∷ room_tests
+
+  pub plan_first : (r : Refusal) → number_of r ≡ first (malformed a ∷ unsettled a ∷ empty a ∷ []) → ◌≡◌ {A = Result ℕ Refusal} (Err r) (surveyed_of a b lent)
+  unfolding survey_number
+  plan_first r e = refused a b r _ (refused_by r (malformed a ∷ unsettled a ∷ empty a ∷ []) second_tests e)
+
+  module _ (ha : Taken a) where
+    past_first : survey_number a b lent ≡ first second_tests
+    unfolding survey_number first
+    past_first = rw (ha.well, ha.is_settled, ne_eqb (nt a) 0 (λ z. omega (arith, z, ha.filled)))
+
+    pub plan_second : (r : Refusal) → number_of r ≡ first (malformed b ∷ unsettled b ∷ empty b ∷ []) → ◌≡◌ {A = Result ℕ Refusal} (Err r) (surveyed_of a b lent)
+    plan_second r e = refused a b r _ (refused_by r (malformed b ∷ unsettled b ∷ empty b ∷ []) room_tests e ∙ sym past_first)
+
+    module _ (hb : Taken b) where
+      past_both : survey_number a b lent ≡ first room_tests
+      unfolding first
+      past_both = past_first ∙ rw (hb.well, hb.is_settled, ne_eqb (nt b) 0 (λ z. omega (arith, z, hb.filled)))
+
+      pub plan_short : lent < nk a + nk b → ◌≡◌ {A = Result ℕ Refusal} (Err ScratchShort) (surveyed_of a b lent)
+      unfolding first
+      plan_short h = refused a b ScratchShort _ (sym (past_both ∙ rw (lt-ltb lent (nk a + nk b) h)))
+
+      pub plan_room : nk a + nk b ≤ lent → ◌≡◌ {A = Result ℕ Refusal} (Ok (length (reports (key_body a) (key_body b)))) (surveyed_of a b lent)
+      unfolding first
+      plan_room h =
+          let e : survey_number a b lent ≡ 0 = past_both ∙ rw (le-ltb lent (nk a + nk b) h) in
+          ap (λ (n : ℕ). surveyed_by n a b) (sym e)
+
+-- a survey that is accepted: both inputs are well formed, and there is room
+pub record Accepted (a b : List ℕ) (lent : ℕ) : Type 0 where
+  pub first_well : well_formed a ≡ true
+  pub second_well : well_formed b ≡ true
+  pub room : nk a + nk b ≤ lent
+
+-- a test that passes leaves it to those that follow
+passed : (n : ℕ) (b : Bool) (ts : List Test) → first (refuse (suc n) b ∷ ts) ≡ 0 → (b ≡ false) × (first ts ≡ 0)
 unfolding first
-three_pass true q s rest h = absurd (omega arith)
-three_pass false true s rest h = absurd (omega arith)
-three_pass false false true rest h = absurd (omega arith)
-three_pass false false false rest h = (refl, refl)
+passed n true ts h = absurd (omega arith)
+passed n false ts h = (refl, h)
 
 not_no : (b : Bool) → not b ≡ false → b ≡ true
 not_no true h = refl
 not_no false h = sym h
 
-pub taken_well : (w : List ℕ) → input_number w ≡ 0 → well_formed w ≡ true
-taken_well w h = not_no (well_formed w) (three_pass (not (well_formed w)) (not (settled w)) (eqb (nt w) 0) [] h).1
-
--- an input that is taken has its keys, as many as its table says
-module _ (w : List ℕ) (h : input_number w ≡ 0) where
-  fits : table_fits w ≡ true
-  unfolding well_formed
-  fits = and_left (table_fits w) _ (taken_well w h)
-
-  pub taken_keys : keys_of w ≡ key_body w
-  taken_keys = rw fits
-
-  pub taken_count : length (keys_of w) ≡ nk w
-  taken_count =
-      let r : size w ≤ length w = leb-true (size w) (length w) (and_right (leb table_size (length w)) (leb (size w) (length w)) fits) in
-      ap length taken_keys ∙ length-take-le (nk w) (drop table_size w) (omega (arith, length-drop table_size w))
-
--- a number that cannot but be 0
-from_zero : (n : ℕ) → ((n ≡ 0 → ⊥) → ⊥) → n ≡ 0
-from_zero zero h = refl
-from_zero (suc n) h = absurd (h (λ z. omega arith))
-
--- a refusal has no report
-refused : (n : ℕ) (a b : List ℕ) → (n ≡ 0 → ⊥) → ◌≡◌ {A = Surveyed} (record { number = n; count = 0 }) (surveyed_by n a b)
-refused zero a b h = absurd (h refl)
-refused (suc n) a b h = refl
-
-module _ (a b : List ℕ) (lent : ℕ) where
-  pub plan_first : (n : ℕ) → n ≡ input_number a → (n ≡ 0 → ⊥) → ◌≡◌ {A = Surveyed} (record { number = n; count = 0 }) (surveyed_of a b lent)
-  unfolding survey_number
-  plan_first n e h =
-      refused n a b h ∙ ap (λ (k : ℕ). surveyed_by k a b) (e ∙ sym (three_fail (malformed a) (unsettled a) (empty a)
-      (malformed b ∷ unsettled b ∷ empty b ∷ refuse 12 (ltb lent (nk a + nk b)) ∷ []) (λ z. h (e ∙ z))))
-
-  module _ (ha : input_number a ≡ 0) where
-    past_first : survey_number a b lent ≡ first (malformed b ∷ unsettled b ∷ empty b ∷ refuse 12 (ltb lent (nk a + nk b)) ∷ [])
-    unfolding survey_number
-    past_first = (three_pass (not (well_formed a)) (not (settled a)) (eqb (nt a) 0) (malformed b ∷ unsettled b ∷ empty b ∷ refuse 12 (ltb lent (nk a + nk b)) ∷ []) ha).0
-
-    pub plan_second : (n : ℕ) → n ≡ input_number b → (n ≡ 0 → ⊥) → ◌≡◌ {A = Surveyed} (record { number = n; count = 0 }) (surveyed_of a b lent)
-    plan_second n e h =
-        refused n a b h ∙ ap (λ (k : ℕ). surveyed_by k a b) (e ∙ (sym (three_fail (malformed b) (unsettled b) (empty b)
-        (refuse 12 (ltb lent (nk a + nk b)) ∷ []) (λ z. h (e ∙ z))) ∙ sym past_first))
-
-    module _ (hb : input_number b ≡ 0) where
-      past_both : survey_number a b lent ≡ first (refuse 12 (ltb lent (nk a + nk b)) ∷ [])
-      past_both = past_first ∙ (three_pass (not (well_formed b)) (not (settled b)) (eqb (nt b) 0) (refuse 12 (ltb lent (nk a + nk b)) ∷ []) hb).0
-
-      pub plan_short : lent < length (keys_of a) + length (keys_of b) → ◌≡◌ {A = Surveyed} (record { number = 12; count = 0 }) (surveyed_of a b lent)
-      unfolding first
-      plan_short h =
-          let s : lent < nk a + nk b = omega (arith, taken_count a ha, taken_count b hb) in
-          ap (λ (k : ℕ). surveyed_by k a b) (sym (past_both ∙ rw (lt-ltb lent (nk a + nk b) s)))
-
-      pub plan_room : length (keys_of a) + length (keys_of b) ≤ lent → (n : ℕ) → n ≡ length (reports (keys_of a) (keys_of b))
-          → ◌≡◌ {A = Surveyed} (record { number = 0; count = n }) (surveyed_of a b lent)
-      unfolding first
-      plan_room h n e =
-          let s : nk a + nk b ≤ lent = omega (arith, taken_count a ha, taken_count b hb) in
-          ap (λ (k : ℕ). record { number = 0; count = k })
-          (e ∙ ap (λ (l : List ℕ). length (reports l (keys_of b))) (taken_keys a ha) ∙ ap (λ (l : List ℕ). length (reports (key_body a) l)) (taken_keys b hb))
-          ∙ ap (λ (k : ℕ). surveyed_by k a b) (sym (past_both ∙ rw (le-ltb lent (nk a + nk b) s)))
-
--- a survey that is accepted: both inputs are taken, and there is room
-pub record Accepted (a b : List ℕ) (lent : ℕ) : Type 0 where
-  pub first_in : input_number a ≡ 0
-  pub second_in : input_number b ≡ 0
-  pub room : nk a + nk b ≤ lent
-
 pub accepted : (a b : List ℕ) (lent : ℕ) → survey_number a b lent ≡ 0 → Accepted a b lent
-unfolding first
+unfolding survey_number
 accepted a b lent e =
-    let ha : input_number a ≡ 0 = from_zero (input_number a) (λ z. z (ap (λ (x : Surveyed). x.number) (plan_first a b lent (input_number a) refl z) ∙ e)) in
-    let hb : input_number b ≡ 0 = from_zero (input_number b) (λ z. z (ap (λ (x : Surveyed). x.number) (plan_second a b lent ha (input_number b) refl z) ∙ e)) in
-    record {
-      first_in = ha;
-      second_in = hb;
-      room = by_test (ltb lent (nk a + nk b)) (λ t. absurd (let k : 12 ≡ 0 = sym (past_both a b lent ha hb ∙ rw t) ∙ e in omega arith)) (λ t. ltb-false lent (nk a + nk b) t);
-    }
+    let u : List Test = second_tests a b lent in
+    let v : List Test = room_tests a b lent in
+    let a5 = passed 4 (not (well_formed a)) (unsettled a ∷ empty a ∷ u) e in
+    let a6 = passed 5 (not (settled a)) (empty a ∷ u) a5.1 in
+    let a7 = passed 6 (eqb (nt a) 0) u a6.1 in
+    let b5 = passed 4 (not (well_formed b)) (unsettled b ∷ empty b ∷ v) a7.1 in
+    let b6 = passed 5 (not (settled b)) (empty b ∷ v) b5.1 in
+    let b7 = passed 6 (eqb (nt b) 0) v b6.1 in
+    let r = passed 11 (ltb lent (nk a + nk b)) [] b7.1 in
+    record { first_well = not_no (well_formed a) a5.0; second_well = not_no (well_formed b) b5.0; room = ltb-false lent (nk a + nk b) r.0 }
+
+-- what a survey's answer says: the reports' number, and that it is accepted; or its number
+pub record Counted (a b : List ℕ) (lent n : ℕ) : Type 0 where
+  pub number : survey_number a b lent ≡ 0
+  pub count : n ≡ length (reports (key_body a) (key_body b))
+
+pub counted : (a b : List ℕ) (lent n : ℕ) → Ok n ≡ surveyed_of a b lent → Counted a b lent n
+counted a b lent n e = go (survey_number a b lent) refl e
+  where
+    go : (k : ℕ) → survey_number a b lent ≡ k → Ok n ≡ surveyed_by k a b → Counted a b lent n
+    go zero z h = record { number = z; count = cc }
+    go (suc k) z h = cc
+
+pub refuses : (a b : List ℕ) (lent : ℕ) (r : Refusal) → Err r ≡ surveyed_of a b lent → 0 < survey_number a b lent
+refuses a b lent r e = go (survey_number a b lent) e
+  where
+    go : (k : ℕ) → Err r ≡ surveyed_by k a b → 0 < k
+    go zero h = cc
+    go (suc k) h = omega arith
+
+-- the number of the answer is that of the survey
+numbered_by : (a b : List ℕ) (n : ℕ) (t : Bool) (ts : List Test) → number_of (refusal_of (suc n)) ≡ suc n
+    → answer_number (surveyed_by (first ts) a b) ≡ first ts
+    → answer_number (surveyed_by (first (refuse (suc n) t ∷ ts)) a b) ≡ first (refuse (suc n) t ∷ ts)
+unfolding first
+numbered_by a b n true ts h k = h
+numbered_by a b n false ts h k = k
+
+pub numbered : (a b : List ℕ) (lent : ℕ) → answer_number (surveyed_of a b lent) ≡ survey_number a b lent
+unfolding survey_number first refusal_of
+numbered a b lent =
+    let u : List Test = second_tests a b lent in
+    let v : List Test = room_tests a b lent in
+    numbered_by a b 4 (not (well_formed a)) (unsettled a ∷ empty a ∷ u) refl
+    (numbered_by a b 5 (not (settled a)) (empty a ∷ u) refl
+    (numbered_by a b 6 (eqb (nt a) 0) u refl
+    (numbered_by a b 4 (not (well_formed b)) (unsettled b ∷ empty b ∷ v) refl
+    (numbered_by a b 5 (not (settled b)) (empty b ∷ v) refl
+    (numbered_by a b 6 (eqb (nt b) 0) v refl
+    (numbered_by a b 11 (ltb lent (nk a + nk b)) [] refl refl))))))

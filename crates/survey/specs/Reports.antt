@@ -1,22 +1,30 @@
 -- Reports as records (document 01, "Survey": a report for each shared key with its two indices, and one for each longest run of one
 -- input's keys, as a from-to index range; and "reports stand in a slice of report records the caller lends").
-use Rattle.std.specs.Prelude.{ℕ, zero, suc, ◌+◌, cond, List, [], ◌∷◌, ◌++◌, map, ltb, length, drop, replicate}
+use Rattle.std.specs.Prelude.{ℕ, zero, suc, ◌+◌, cond, List, [], ◌++◌, map, ltb, length, drop, replicate, eqb, Option, Some, None, Result, Ok, Err}
 use Rattle.chunk.specs.Words.{key_body, table_fits}
-use Rattle.chunk.specs.Refusal.{first, malformed, unsettled, empty}
+use Rattle.chunk.specs.declared.Refusal.{Refusal}
+use Rattle.chunk.specs.declared.Refusal.TheVariants.{Ragged, TooMany, Falls, OutOfRange, Malformed, Unsettled, Empty, BadCursor, BadFrontier, TooManyCorners, Overlaps, ScratchShort, OutputShort, Overflows}
 use Rattle.reports.specs.Survey.{this, that, both, reports, survey_number}
 use Rattle.reports.specs.Survey.{Report as Said}
 use Rattle.reports.specs.Scratch.{step_report}
+use Rattle.survey.specs.declared.Kind.{Kind}
+use Rattle.survey.specs.declared.Kind.TheVariants.{This, That, Both}
 use Rattle.survey.specs.declared.Report.{Report}
 use Rattle.survey.specs.declared.Spot.{Spot}
 use Rattle.survey.specs.declared.Next.{Next}
-use Rattle.survey.specs.declared.Surveyed.{Surveyed}
 use Rattle.survey.specs.declared.Listed.{Listed}
 
--- a report as a record: kind 0 is a run of the first input, 1 of the second, 2 a shared key
+-- document 01's number of a kind: 0 is a run of the first input, 1 of the second, 2 a shared key
+abbrev pub kind_number : Kind → ℕ
+kind_number This = 0
+kind_number That = 1
+kind_number Both = 2
+
+-- a report as a record
 abbrev pub record_of : Said → Report
-record_of (this l h) = record { kind = 0; low = l; high = h }
-record_of (that l h) = record { kind = 1; low = l; high = h }
-record_of (both i j) = record { kind = 2; low = i; high = j }
+record_of (this l h) = record { kind = This; low = l; high = h }
+record_of (that l h) = record { kind = That; low = l; high = h }
+record_of (both i j) = record { kind = Both; low = i; high = j }
 
 -- where both inputs stand past a report
 abbrev pub spot_past : Said → ℕ → ℕ → Spot
@@ -28,41 +36,46 @@ spot_past (both x y) i j = record { i = i + 1; j = j + 1 }
 abbrev pub next_by : ℕ → ℕ → Said → Next
 next_by i j s = record { report = record_of s; spot = spot_past s i j }
 
--- where nothing is left: no report, and both inputs stand where they stood
-abbrev pub no_next : ℕ → ℕ → Next
-no_next i j = record { report = record { kind = 0; low = 0; high = 0 }; spot = record { i = i; j = j } }
-
--- the report of two lists of keys from an index of each on
-unfoldable pub next_in : List ℕ → List ℕ → ℕ → ℕ → Next
+-- the report of two lists of keys from an index of each on, and none where nothing is left of either
+unfoldable pub next_in : List ℕ → List ℕ → ℕ → ℕ → Option Next
 unfolding step_report
 next_in xs ys i j =
     cond (ltb i (length xs))
-    (cond (ltb j (length ys)) (next_by i j (step_report xs i (length xs) ys j (length ys))) (next_by i j (this i (length xs))))
-    (cond (ltb j (length ys)) (next_by i j (that j (length ys))) (no_next i j))
+    (cond (ltb j (length ys)) (Some (next_by i j (step_report xs i (length xs) ys j (length ys)))) (Some (next_by i j (this i (length xs)))))
+    (cond (ltb j (length ys)) (Some (next_by i j (that j (length ys)))) None)
 
 -- the keys of a chunk, and none of words whose table doesn't fit
 abbrev pub keys_of : List ℕ → List ℕ
 keys_of w = cond (table_fits w) (key_body w) []
 
 -- the next report of two chunks
-abbrev pub next_of : List ℕ → List ℕ → Spot → Next
+abbrev pub next_of : List ℕ → List ℕ → Spot → Option Next
 next_of a b s = next_in (keys_of a) (keys_of b) s.i s.j
 
--- 5, 6 or 7 for one input, 0 where it is taken
-abbrev pub input_number : List ℕ → ℕ
-input_number w = first (malformed w ∷ unsettled w ∷ empty w ∷ [])
+-- the refusal that document 01 gives a number
+unfoldable pub refusal_of : ℕ → Refusal
+refusal_of n =
+    cond (eqb n 1) Ragged
+    (cond (eqb n 2) TooMany
+    (cond (eqb n 3) Falls
+    (cond (eqb n 4) OutOfRange
+    (cond (eqb n 5) Malformed
+    (cond (eqb n 6) Unsettled
+    (cond (eqb n 7) Empty
+    (cond (eqb n 8) BadCursor
+    (cond (eqb n 9) BadFrontier
+    (cond (eqb n 10) TooManyCorners
+    (cond (eqb n 11) Overlaps
+    (cond (eqb n 12) ScratchShort
+    (cond (eqb n 13) OutputShort Overflows))))))))))))
 
--- how many reports there are where the number is 0; none on a refusal
-abbrev pub count_for : ℕ → List ℕ → List ℕ → ℕ
-count_for zero a b = length (reports (key_body a) (key_body b))
-count_for (suc n) a b = 0
-
--- what a survey answers: its number, and how many reports there are
-abbrev pub surveyed_by : ℕ → List ℕ → List ℕ → Surveyed
-surveyed_by n a b = record { number = n; count = count_for n a b }
+-- what a survey answers by its number: how many reports there are where it is 0, else the refusal
+abbrev pub surveyed_by : ℕ → List ℕ → List ℕ → Result ℕ Refusal
+surveyed_by zero a b = Ok (length (reports (key_body a) (key_body b)))
+surveyed_by (suc n) a b = Err (refusal_of (suc n))
 
 -- the answer: the number, and how many reports where it is 0
-abbrev pub surveyed_of : List ℕ → List ℕ → ℕ → Surveyed
+abbrev pub surveyed_of : List ℕ → List ℕ → ℕ → Result ℕ Refusal
 surveyed_of a b lent = surveyed_by (survey_number a b lent) a b
 
 -- the lent records after a survey: the reports in order, and every record past the last as it was; on a refusal all of them
@@ -76,7 +89,7 @@ filled_of a b lent = filled_for (survey_number a b (length lent)) a b lent
 
 -- sixteen records that hold no report
 abbrev pub blanks : List Report
-blanks = replicate 16 (record { kind = 0; low = 0; high = 0 })
+blanks = replicate 16 (record { kind = This; low = 0; high = 0 })
 
 -- a survey into sixteen such records: what it answers, and the records after it
 abbrev pub listed_of : List ℕ → List ℕ → Listed

@@ -1,220 +1,188 @@
 // The survey of two chunks' keys, one report at a time.
 #![tactic(auto)]
 
-ghost use Rattle.std.specs.Prelude.{◌≡◌, ◌≤◌, length};
+ghost use Rattle.std.specs.Prelude.{◌≡◌, ◌+◌, ◌^◌, ◌<◌, ◌≤◌, length};
 ghost use Rattle.reports.specs.Gallop.{run_end};
-ghost use Rattle.reports.specs.Survey.{reports};
-ghost use Rattle.survey.specs.Reports.{next_in, keys_of, next_of, input_number, surveyed_of, filled_of, listed_of};
+ghost use Rattle.reports.specs.Survey.{reports, this, that, both};
+ghost use Rattle.survey.specs.Reports.{next_by, next_in, keys_of, next_of, surveyed_of, filled_of, listed_of};
 
-// A report: kind 0 is a run of the first input's keys and 1 of the second's, from `low` up to `high`; 2 is a shared key at `low` in
-// the first and at `high` in the second.
-#[derive(Clone, Copy)]
+use chunk::{Chunk, Refusal};
+
+// What a report is of: a run of the first input's keys, a run of the second's, or a key that both have.
+#[derive(Clone, Copy, Debug, PartialEq, Eq)]
+pub enum Kind {
+    This = 0,
+    That = 1,
+    Both = 2,
+}
+
+// A report: a run goes from `low` up to `high`; a shared key is at `low` in the first input and at `high` in the second.
+#[derive(Clone, Copy, Debug, PartialEq, Eq)]
 pub struct Report {
-    pub kind: u64,
+    pub kind: Kind,
     pub low: u64,
     pub high: u64,
 }
 
 // How far a survey has come in each input.
-#[derive(Clone, Copy)]
+#[derive(Clone, Copy, Debug, PartialEq, Eq)]
 pub struct Spot {
     pub i: usize,
     pub j: usize,
 }
 
+// The reports of a spot, each with where both inputs stand past it.
+// Kept: the two runs differ in the input whose index is read and moved; one function that is told the side is no plainer.
+impl Spot {
+    // The run of the first input's keys up to `end`.
+    fn this(self, end: usize) -> Next
+        ensures { result ≡ next_by self.i self.j (this self.i end) }
+    {
+        Next {
+            report: Report {
+                kind: Kind::This,
+                low: self.i as u64,
+                high: end as u64,
+            },
+            spot: Spot { i: end, ..self },
+        }
+    }
+
+    // The run of the second input's keys up to `end`.
+    fn that(self, end: usize) -> Next
+        ensures { result ≡ next_by self.i self.j (that self.j end) }
+    {
+        Next {
+            report: Report {
+                kind: Kind::That,
+                low: self.j as u64,
+                high: end as u64,
+            },
+            spot: Spot { j: end, ..self },
+        }
+    }
+
+    // The key that both inputs have here.
+    fn both(self) -> Next
+        requires { (self.i + 1 < 2 ^ 64) × (self.j + 1 < 2 ^ 64) }
+        ensures { result ≡ next_by self.i self.j (both self.i self.j) }
+    {
+        Next {
+            report: Report {
+                kind: Kind::Both,
+                low: self.i as u64,
+                high: self.j as u64,
+            },
+            spot: Spot {
+                i: self.i + 1,
+                j: self.j + 1,
+            },
+        }
+    }
+}
+
 // A report, and where both inputs stand past it.
-#[derive(Clone, Copy)]
+#[derive(Clone, Copy, Debug, PartialEq, Eq)]
 pub struct Next {
     pub report: Report,
     pub spot: Spot,
 }
 
-// What a survey answers: 0 and how many reports there are, or a refusal with no report.
-#[derive(Clone, Copy)]
-pub struct Surveyed {
-    pub number: u64,
-    pub count: usize,
-}
-
-const THIS: u64 = 0;
-
-const THAT: u64 = 1;
-
-const BOTH: u64 = 2;
-
 // The keys of a chunk, and none of words whose table doesn't fit.
 fn keys(words: &[u64]) -> &[u64]
     ensures { result.now ≡ keys_of words.now }
 {
-    let c = chunk::read_contents(words);
-    let fits = c.fits;
-    if !fits {
-        let none = 0;
-        return &words[none..none];
+    match chunk::read_contents(words) {
+        Some(contents) => Chunk { words, contents }.keys(),
+        None => &[],
     }
-    let from = c.keys_at;
-    let to = c.val_ends_at;
-    &words[from..to]
 }
 
 // Where the keys below `target` end, from `from` on.
+// Kept: one after another, since on any words the keys may not rise, and a search by halves would end elsewhere.
 fn run_end(keys: &[u64], from: usize, target: u64) -> usize
     requires { from ≤ length keys.now }
     ensures { result ≡ run_end keys.now from (length keys.now) target }
 {
-    let mut at = from;
-    while at < keys.len() {
+    for at in from..keys.len() {
         if target <= keys[at] {
             return at;
         }
-        at += 1;
     }
-    at
+    keys.len()
 }
 
-// A report and a spot.
-fn made(kind: u64, low: usize, high: usize, i: usize, j: usize) -> Next
-    ensures { result ≡ record { report = record { kind = kind; low = low; high = high }; spot = record { i = i; j = j } } }
-{
-    Next {
-        report: Report {
-            kind,
-            low: low as u64,
-            high: high as u64,
-        },
-        spot: Spot { i, j },
-    }
-}
-
-// The report of two lists of keys from an index of each on.
-fn next_in(xs: &[u64], ys: &[u64], spot: Spot) -> Next
+// The report of two lists of keys from an index of each on, if anything is left of either.
+// Kept: beside merge's survey, which gallops over settled chunks into scratch; this one gives one report at a time, of any words.
+#[tactic(auto, using(crate::proofs::Nexts::next_none, crate::proofs::Nexts::next_that_left, crate::proofs::Nexts::next_this_left, crate::proofs::Nexts::next_both, crate::proofs::Nexts::next_this, crate::proofs::Nexts::next_that))]
+fn next_in(xs: &[u64], ys: &[u64], spot: Spot) -> Option<Next>
     ensures { result ≡ next_in xs.now ys.now spot.i spot.j }
 {
-    let i = spot.i;
-    let j = spot.j;
-    let n = xs.len();
-    let m = ys.len();
-    if n <= i {
-        if m <= j {
-            return made(THIS, 0, 0, i, j);
-        }
-        return made(THAT, j, m, i, m);
+    match (xs.get(spot.i), ys.get(spot.j)) {
+        (Some(x), Some(y)) if x == y => Some(spot.both()),
+        (Some(x), Some(y)) if x < y => Some(spot.this(run_end(xs, spot.i, *y))),
+        (Some(x), Some(_)) => Some(spot.that(run_end(ys, spot.j, *x))),
+        (Some(_), None) => Some(spot.this(xs.len())),
+        (None, Some(_)) => Some(spot.that(ys.len())),
+        (None, None) => None,
     }
-    if m <= j {
-        return made(THIS, i, n, n, j);
-    }
-    let x = xs[i];
-    let y = ys[j];
-    if x == y {
-        return made(BOTH, i, j, i + 1, j + 1);
-    }
-    if x < y {
-        let end = run_end(xs, i, y);
-        return made(THIS, i, end, end, j);
-    }
-    let end = run_end(ys, j, x);
-    made(THAT, j, end, i, end)
 }
 
-// The next report of two chunks from a spot on, on any words and any spot; where nothing is left, no report and the same spot.
-pub fn next_report(a: &[u64], b: &[u64], spot: Spot) -> Next
+// The next report of two chunks from a spot on, on any words and any spot; none where nothing is left.
+pub fn next_report(a: &[u64], b: &[u64], spot: Spot) -> Option<Next>
     ensures { result ≡ next_of a.now b.now spot }
 {
-    let xs = keys(a);
-    let ys = keys(b);
-    next_in(xs, ys, spot)
+    next_in(keys(a), keys(b), spot)
 }
 
 // How many reports two lists of keys have.
+// Kept: a loop, since an iterator of reports would hold both inputs and the spot for the sake of this count.
 fn count_reports(xs: &[u64], ys: &[u64]) -> usize
     ensures { result ≡ length (reports xs.now ys.now) }
 {
-    let all = xs.len() + ys.len();
-    let mut i = 0;
-    let mut j = 0;
+    let mut at = Spot { i: 0, j: 0 };
     let mut count = 0;
-    while i + j < all {
-        let next = next_in(xs, ys, Spot { i, j });
-        let spot = next.spot;
-        i = spot.i;
-        j = spot.j;
+    while let Some(next) = next_in(xs, ys, at) {
+        at = next.spot;
         count += 1;
     }
     count
 }
 
-// 5, 6 or 7 for one input, 0 where it is taken.
-fn input_number(words: &[u64]) -> u64
-    ensures { result ≡ input_number words.now }
-{
-    let checked = chunk::check(words);
-    let number = checked.number;
-    if number != 0 {
-        return number;
-    }
-    let settled = checked.settled;
-    if !settled {
-        return 6;
-    }
-    let c = checked.contents;
-    let nt = c.nt;
-    if nt == 0 {
-        return 7;
-    }
-    0
-}
-
-// What a survey answers with room for `lent` reports.
-pub fn plan(a: &[u64], b: &[u64], lent: usize) -> Surveyed
+// What a survey answers with room for `lent` reports: how many there are, or 5, 6 or 7 for the first input or the second, or 12.
+pub fn plan(a: &[u64], b: &[u64], lent: usize) -> Result<usize, Refusal>
     ensures { result ≡ surveyed_of a.now b.now lent }
 {
-    let first = input_number(a);
-    if first != 0 {
-        return Surveyed {
-            number: first,
-            count: 0,
-        };
-    }
-    let second = input_number(b);
-    if second != 0 {
-        return Surveyed {
-            number: second,
-            count: 0,
-        };
-    }
-    let xs = keys(a);
-    let ys = keys(b);
+    let first = chunk::filled(a)?;
+    let second = chunk::filled(b)?;
+    let xs = first.keys();
+    let ys = second.keys();
     if lent < xs.len() + ys.len() {
-        return Surveyed {
-            number: 12,
-            count: 0,
-        };
+        return Err(Refusal::ScratchShort);
     }
-    let count = count_reports(xs, ys);
-    Surveyed { number: 0, count }
+    Ok(count_reports(xs, ys))
 }
 
 // The survey of two chunks' keys: the reports stand in the lent records in order, and the records past the last are as they were.
-pub fn survey(a: &[u64], b: &[u64], reports: &mut [Report]) -> Surveyed
+pub fn survey(a: &[u64], b: &[u64], reports: &mut [Report]) -> Result<usize, Refusal>
     ensures { (result ≡ surveyed_of a.now b.now (length reports.old)) × (reports.new ≡ filled_of a.now b.now reports.old) }
 {
-    let said = plan(a, b, reports.len());
-    let count = said.count;
+    let count = plan(a, b, reports.len())?;
+    let xs = keys(a);
+    let ys = keys(b);
     let mut spot = Spot { i: 0, j: 0 };
-    let mut at = 0;
-    while at < count {
-        let next = next_report(a, b, spot);
-        reports[at] = next.report;
+    for report in &mut reports[..count] {
+        let next = next_in(xs, ys, spot).unwrap();
+        *report = next.report;
         spot = next.spot;
-        at += 1;
     }
-    said
+    Ok(count)
 }
 
 // What a survey answers, and the sixteen records that it filled.
 #[derive(Clone, Copy)]
 pub struct Listed {
-    pub answer: Surveyed,
+    pub answer: Result<usize, Refusal>,
     pub reports: [Report; 16],
 }
 
@@ -223,7 +191,7 @@ pub fn survey_listed(a: &[u64], b: &[u64]) -> Listed
     ensures { result ≡ listed_of a.now b.now }
 {
     let mut held = [Report {
-        kind: 0,
+        kind: Kind::This,
         low: 0,
         high: 0,
     }; 16];

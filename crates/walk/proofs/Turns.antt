@@ -4,9 +4,8 @@ use mathlib.Core.Path.{◌≡◌, refl, sym, ◌∙◌, ap}
 use mathlib.Core.Bool.{Bool, true, false}
 use native.Mathlib.Omega.{arith}
 use Rattle.walk.specs.declared.Walker.{Walker}
-use Rattle.walk.specs.declared.Reached.{Reached}
-use Rattle.walk.specs.declared.Reached.TheVariants.{At, Past}
-use Rattle.walk.specs.Walk.{Place, Moved, moved, past, and_then, until}
+use Rattle.std.specs.Prelude.{Some, None}
+use Rattle.walk.specs.Walk.{Place, Moved, moved, past, until}
 use Rattle.walk.specs.Answer.{place_of, walker_at, reached_by}
 
 -- by where a move leads
@@ -15,20 +14,13 @@ by_move (moved q) f g = f q refl
 by_move past f g = g refl
 
 -- what the code's answer says of the move behind it
-pub reached_at : (m : Moved) (q : Walker) → reached_by m ≡ At q → m ≡ moved (place_of q)
-reached_at (moved p) q e = let w : walker_at p ≡ q = cc in ap (λ (x : Walker). moved (place_of x)) w
+pub reached_at : (m : Moved) (q : Walker) → Some q ≡ reached_by m → m ≡ moved (place_of q)
+reached_at (moved p) q e = let w : q ≡ walker_at p = cc in ap (λ (x : Walker). moved (place_of x)) (sym w)
 reached_at past q e = cc
 
-pub reached_past : (m : Moved) → reached_by m ≡ Past → m ≡ past
+pub reached_past : (m : Moved) → None ≡ reached_by m → m ≡ past
 reached_past (moved p) e = cc
 reached_past past e = refl
-
--- the code's first of two moves, and what is left to move
-pub first_at : (m : Moved) (f : Place → Moved) (r : Reached) (q : Walker) → r ≡ reached_by m → r ≡ At q → and_then m f ≡ f (place_of q)
-first_at m f r q e a = rw (reached_at m q (sym e ∙ a))
-
-pub first_past : (m : Moved) (f : Place → Moved) (r : Reached) → r ≡ reached_by m → r ≡ Past → and_then m f ≡ past
-first_past m f r e a = rw (reached_past m (sym e ∙ a))
 
 -- a turn moves the index on by one, and below n
 pub record Counted (index : Place → ℕ) (n : ℕ) (p q : Place) : Type 0 where
@@ -85,14 +77,14 @@ module _ (L : Loop) where
   stuck p h e = more p ∙ rw (h, e)
 
   -- a turn in the code: it goes on, with less left, or it is the end
-  module _ (p : Walker) (r : Reached) (out : L.inside (place_of p) ≡ false) (e : r ≡ reached_by (L.turn (place_of p))) where
-    pub goes_on : (q : Walker) → r ≡ At q → go L (place_of p) ≡ go L (place_of q)
-    goes_on q a = turned (place_of p) (place_of q) out (reached_at (L.turn (place_of p)) q (sym e ∙ a))
+  module _ (p q : Walker) (out : L.inside (place_of p) ≡ false) (e : Some q ≡ reached_by (L.turn (place_of p))) where
+    pub goes_on : go L (place_of p) ≡ go L (place_of q)
+    goes_on = turned (place_of p) (place_of q) out (reached_at (L.turn (place_of p)) q e)
 
-    pub less_left : (q : Walker) → r ≡ At q → L.n - L.index (place_of q) < L.n - L.index (place_of p)
-    less_left q a =
-        let s : Counted L.index L.n (place_of p) (place_of q) = L.counts (place_of p) (place_of q) (reached_at (L.turn (place_of p)) q (sym e ∙ a)) in
+    pub less_left : L.n - L.index (place_of q) < L.n - L.index (place_of p)
+    less_left =
+        let s : Counted L.index L.n (place_of p) (place_of q) = L.counts (place_of p) (place_of q) (reached_at (L.turn (place_of p)) q e) in
         omega arith
 
-    pub ends : r ≡ Past → go L (place_of p) ≡ past
-    ends a = stuck (place_of p) out (reached_past (L.turn (place_of p)) (sym e ∙ a))
+  pub ends : (p : Walker) → L.inside (place_of p) ≡ false → None ≡ reached_by (L.turn (place_of p)) → go L (place_of p) ≡ past
+  ends p out e = stuck (place_of p) out (reached_past (L.turn (place_of p)) e)

@@ -21,7 +21,7 @@ use Rattle.walk.specs.Walk.{Place, gave, done, moved, read, in_bodies, diff_on, 
 use Rattle.walk.specs.Whole.{Said, given, finished, walk, records, WalkGivesRecords}
 use Rattle.walk.proofs.Turns.{Loop, stays, turned}
 use Rattle.walk.proofs.Counts.{time_loop}
-use Rattle.walk.proofs.Table.{step_reads, step-done}
+use Rattle.walk.proofs.Ways.{step_reads, step-done}
 use Rattle.walk.proofs.Left.{At, Next, next, used, head, none, diffs-on, diff_ends_cons, Item, key-item, val-item, time-item, diff-item, whatever_d}
 
 -- walking from this place gives these records, and then done

@@ -1,16 +1,21 @@
 -- The walker as the code hands it on, and what a start and a step answer, by cases (document 01, "Walk": starting checks the chunk
 -- (5) and gives all indices 0, with the ends of each body's list 0; a step gives a record, says done, or answers 5).
-use Rattle.std.specs.Prelude.{ℕ, Bool, true, false, List}
+use Rattle.std.specs.Prelude.{ℕ, Bool, true, false, List, Option, Some, None, Result, Ok, Err}
 use Rattle.chunk.specs.Words.{well_formed}
 use Rattle.chunk.specs.Entry.{Entry}
+use Rattle.chunk.specs.declared.Refusal.{Refusal}
+use Rattle.chunk.specs.declared.Refusal.TheVariants.{Malformed}
 use Rattle.walk.specs.declared.Walker.{Walker}
 use Rattle.walk.specs.declared.Record.{Record}
-use Rattle.walk.specs.declared.Started.{Started}
-use Rattle.walk.specs.declared.Reached.{Reached}
-use Rattle.walk.specs.declared.Reached.TheVariants.{At, Past}
-use Rattle.walk.specs.declared.Stepped.{Stepped}
-use Rattle.walk.specs.declared.Stepped.TheVariants.{Gave, Done, Refused}
 use Rattle.walk.specs.Walk.{Place, Went, gave, done, refused, Moved, moved, past, start}
+
+-- what a start answers: the walker, or a refusal
+abbrev pub Started : Type 0
+Started = Result Walker Refusal
+
+-- what a step answers: a record and the walker past it, or that none is left; or a refusal
+abbrev pub Stepped : Type 0
+Stepped = Result (Option (Record × Walker)) Refusal
 
 -- a walker's place
 abbrev pub place_of : Walker → Place
@@ -24,32 +29,28 @@ walker_at p = record { k = p.k; v = p.v; t = p.t; d = p.d; v_end = p.val_end; t_
 abbrev pub record_of : Entry → Record
 record_of e = record { key = e.key; val = e.val; time = e.time; diff = e.diff }
 
--- the walker with these ends and every index 0
-abbrev pub first_with : ℕ → ℕ → ℕ → Walker
-first_with val_end time_end diff_end = record { k = 0; v = 0; t = 0; d = 0; v_end = val_end; t_end = time_end; d_end = diff_end }
-
--- 0 and the walker at the first place of a chunk; 5 and all else zero of other words
+-- the walker at the first place of a chunk; 5 of other words
 abbrev pub started_as : Bool → List ℕ → Started
-started_as true w = record { number = 0; walker = walker_at (start w) }
-started_as false w = record { number = 5; walker = first_with 0 0 0 }
+started_as true w = Ok (walker_at (start w))
+started_as false w = Err Malformed
 
 -- what a start answers
 unfoldable pub started_of : List ℕ → Started
 started_of w = started_as (well_formed w) w
 
--- where the moves of a step lead
-abbrev pub reached_by : Moved → Reached
-reached_by (moved p) = At (walker_at p)
-reached_by past = Past
+-- where the moves of a step lead, if they needn't read past the end of a body
+abbrev pub reached_by : Moved → Option Walker
+reached_by (moved p) = Some (walker_at p)
+reached_by past = None
+
+-- what is read where they led, if anything
+abbrev pub given_by : Went → Option (Record × Walker)
+given_by (gave e p) = Some (record_of e, walker_at p)
+given_by done = None
+given_by refused = None
 
 -- what a step answers
 abbrev pub stepped_by : Went → Stepped
-stepped_by (gave e p) = Gave (record_of e) (walker_at p)
-stepped_by done = Done
-stepped_by refused = Refused
-
--- document 01's number for an answer: 5 where the step is refused
-abbrev pub number_of : Stepped → ℕ
-number_of (Gave e w) = 0
-number_of Done = 0
-number_of Refused = 5
+stepped_by (gave e p) = Ok (Some (record_of e, walker_at p))
+stepped_by done = Ok None
+stepped_by refused = Err Malformed

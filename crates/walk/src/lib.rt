@@ -1,13 +1,14 @@
 #![tactic(auto)]
 
-ghost use Rattle.std.specs.Prelude.{◌≡◌, true, ◌+◌, ◌≤◌, ◌<◌, length, get_or};
-ghost use Rattle.chunk.specs.Words.{body, val_end_body, time_end_body, diff_end_body};
-ghost use Rattle.chunk.specs.Contents.{Placed};
-ghost use Rattle.walk.specs.Walk.{next_key, to_key, next_val, to_val, next_time, to_time, moved, in_bodies, record_at, read, step};
-ghost use Rattle.walk.specs.Answer.{first_with, started_of, place_of, reached_by, record_of, stepped_by};
+ghost use Rattle.std.specs.Prelude.{◌≡◌, get_or};
+ghost use Rattle.chunk.specs.Words.{val_end_body, time_end_body, diff_end_body};
+ghost use Rattle.walk.specs.Walk.{next_key, to_key, next_val, to_val, next_time, to_time, moved, read, step};
+ghost use Rattle.walk.specs.Answer.{started_of, place_of, reached_by, given_by, stepped_by};
+
+use chunk::{Chunk, Refusal};
 
 // The four indices of a walk, and the ends of the lists that the last three stand in.
-#[derive(Clone, Copy)]
+#[derive(Clone, Copy, Debug, PartialEq, Eq)]
 pub struct Walker {
     pub k: u64,
     pub v: u64,
@@ -19,7 +20,8 @@ pub struct Walker {
 }
 
 // One record of a chunk.
-#[derive(Clone, Copy)]
+// Kept: beside `sort::Update`, which is lent words to be sorted; a crate for both would hold nothing else.
+#[derive(Clone, Copy, Debug, PartialEq, Eq)]
 pub struct Record {
     pub key: u64,
     pub val: u64,
@@ -27,285 +29,151 @@ pub struct Record {
     pub diff: u64,
 }
 
-// What a start answers: 0 and the walker, or 5 with all else zero.
+// The ends of the lists of a chunk's values, times and diffs.
 #[derive(Clone, Copy)]
-pub struct Started {
-    pub number: u64,
-    pub walker: Walker,
+struct Ends<'a> {
+    vals: &'a [u64],
+    times: &'a [u64],
+    diffs: &'a [u64],
 }
 
-// What a step answers: a record and the walker past it; that there is none left; or 5, and the walker is as it was.
-#[derive(Clone, Copy)]
-pub enum Stepped {
-    Gave(Record, Walker),
-    Done,
-    Refused,
-}
-
-// Where the moves of a step lead, or that one must read past the end of a body.
-#[derive(Clone, Copy)]
-enum Reached {
-    At(Walker),
-    Past,
-}
-
-// The next key, and the end of its values.
-fn next_key(val_ends: &[u64], w: Walker) -> Reached
-    ensures { result ≡ reached_by (next_key val_ends.now (place_of w)) }
-{
-    let count = val_ends.len();
-    let k = w.k as usize;
-    if count <= k {
-        return Reached::Past;
+// The moves of a walker: each answers none where it must read past the ends.
+// Kept: the three loops and their moves differ in the fields that they read and in the move that each calls; one of each over closures is no plainer.
+impl Ends<'_> {
+    // The next key, and the end of its values.
+    fn next_key(self, w: Walker) -> Option<Walker>
+        ensures { result ≡ reached_by (next_key self.entry.vals.now (place_of w)) }
+    {
+        let k = w.k.checked_add(1)?;
+        let v_end = *self.vals.get(k as usize)?;
+        Some(Walker { k, v_end, ..w })
     }
-    let next = k + 1;
-    if count <= next {
-        return Reached::Past;
+
+    // Keys on, until `v` stands in the key's list.
+    fn to_key(self, w: Walker) -> Option<Walker>
+        ensures { result ≡ reached_by (to_key self.entry.vals.now (place_of w)) }
+    {
+        let mut p = w;
+        while p.v_end <= p.v {
+            p = self.next_key(p)?;
+        }
+        Some(p)
     }
-    let mut p = w;
-    p.k = next as u64;
-    p.v_end = val_ends[next];
-    Reached::At(p)
-}
 
-// Keys on, until `v` stands in the key's list.
-fn to_key(val_ends: &[u64], w: Walker) -> Reached
-    ensures { result ≡ reached_by (to_key val_ends.now (place_of w)) }
-{
-    let mut p = w;
-    while p.v_end <= p.v {
-        let turned = next_key(val_ends, p);
-        let Reached::At(q) = turned else {
-            return Reached::Past;
-        };
-        p = q;
+    // The next value, in its key, and the end of its times.
+    fn next_val(self, w: Walker) -> Option<Walker>
+        ensures { result ≡ reached_by (next_val self.entry.vals.now self.entry.times.now (place_of w)) }
+    {
+        let v = w.v.checked_add(1)?;
+        let keyed = self.to_key(Walker { v, ..w })?;
+        let t_end = *self.times.get(keyed.v as usize)?;
+        Some(Walker { t_end, ..keyed })
     }
-    Reached::At(p)
-}
 
-// The next value, in its key, and the end of its times.
-fn next_val(val_ends: &[u64], time_ends: &[u64], w: Walker) -> Reached
-    ensures { result ≡ reached_by (next_val val_ends.now time_ends.now (place_of w)) }
-{
-    let count = time_ends.len();
-    let v = w.v as usize;
-    if count <= v {
-        return Reached::Past;
+    // Values on, until `t` stands in the value's list.
+    fn to_val(self, w: Walker) -> Option<Walker>
+        ensures { result ≡ reached_by (to_val self.entry.vals.now self.entry.times.now (place_of w)) }
+    {
+        let mut p = w;
+        while p.t_end <= p.t {
+            p = self.next_val(p)?;
+        }
+        Some(p)
     }
-    let mut p = w;
-    p.v = w.v + 1;
-    let keyed = to_key(val_ends, p);
-    let Reached::At(q) = keyed else {
-        return Reached::Past;
-    };
-    let at = q.v as usize;
-    if count <= at {
-        return Reached::Past;
+
+    // The next time, in its value, and the end of its diffs.
+    fn next_time(self, w: Walker) -> Option<Walker>
+        ensures { result ≡ reached_by (next_time self.entry.vals.now self.entry.times.now self.entry.diffs.now (place_of w)) }
+    {
+        let t = w.t.checked_add(1)?;
+        let valued = self.to_val(Walker { t, ..w })?;
+        let d_end = *self.diffs.get(valued.t as usize)?;
+        Some(Walker { d_end, ..valued })
     }
-    let mut r = q;
-    r.t_end = time_ends[at];
-    Reached::At(r)
-}
 
-// Values on, until `t` stands in the value's list.
-fn to_val(val_ends: &[u64], time_ends: &[u64], w: Walker) -> Reached
-    ensures { result ≡ reached_by (to_val val_ends.now time_ends.now (place_of w)) }
-{
-    let mut p = w;
-    while p.t_end <= p.t {
-        let turned = next_val(val_ends, time_ends, p);
-        let Reached::At(q) = turned else {
-            return Reached::Past;
-        };
-        p = q;
+    // Times on, until `d` stands in the time's list.
+    fn to_time(self, w: Walker) -> Option<Walker>
+        ensures { result ≡ reached_by (to_time self.entry.vals.now self.entry.times.now self.entry.diffs.now (place_of w)) }
+    {
+        let mut p = w;
+        while p.d_end <= p.d {
+            p = self.next_time(p)?;
+        }
+        Some(p)
     }
-    Reached::At(p)
 }
 
-// The next time, in its value, and the end of its diffs.
-fn next_time(val_ends: &[u64], time_ends: &[u64], diff_ends: &[u64], w: Walker) -> Reached
-    ensures { result ≡ reached_by (next_time val_ends.now time_ends.now diff_ends.now (place_of w)) }
+// The three lists of ends that a chunk holds.
+fn ends_of(chunk: Chunk) -> Ends
+    ensures { (result.vals.now ≡ val_end_body chunk.entry.words.now) × (result.times.now ≡ time_end_body chunk.entry.words.now) × (result.diffs.now ≡ diff_end_body chunk.entry.words.now) }
 {
-    let count = diff_ends.len();
-    let t = w.t as usize;
-    if count <= t {
-        return Reached::Past;
+    Ends {
+        vals: chunk.val_ends(),
+        times: chunk.time_ends(),
+        diffs: chunk.diff_ends(),
     }
-    let mut p = w;
-    p.t = w.t + 1;
-    let valued = to_val(val_ends, time_ends, p);
-    let Reached::At(q) = valued else {
-        return Reached::Past;
-    };
-    let at = q.t as usize;
-    if count <= at {
-        return Reached::Past;
-    }
-    let mut r = q;
-    r.d_end = diff_ends[at];
-    Reached::At(r)
 }
 
-// Times on, until `d` stands in the time's list.
-fn to_time(val_ends: &[u64], time_ends: &[u64], diff_ends: &[u64], w: Walker) -> Reached
-    ensures { result ≡ reached_by (to_time val_ends.now time_ends.now diff_ends.now (place_of w)) }
+// The first of some ends, or 0 where there is none.
+fn first(ends: &[u64]) -> u64
+    ensures { result ≡ get_or ends.now 0 0 }
 {
-    let mut p = w;
-    while p.d_end <= p.d {
-        let turned = next_time(val_ends, time_ends, diff_ends, p);
-        let Reached::At(q) = turned else {
-            return Reached::Past;
-        };
-        p = q;
-    }
-    Reached::At(p)
+    ends.first().copied().unwrap_or(0)
 }
 
-// The body of `count` words at `at`.
-fn part(words: &[u64], at: usize, count: usize) -> &[u64]
-    requires { at + count ≤ length words.now }
-    ensures { result.now ≡ body at count words.now }
+// Where a walk starts: every index 0, with the end of each body's list 0, or 0 where there is none. 5 where the words are not a
+// chunk.
+pub fn walk_start(words: &[u64]) -> Result<Walker, Refusal>
+    ensures { result ≡ started_of words.now }
 {
-    let end = at + count;
-    &words[at..end]
-}
-
-// Every index on, to where the next record stands.
-fn move_on(words: &[u64], c: chunk::Contents, w: Walker) -> Reached
-    requires { Placed c words.now }
-    ensures { result ≡ reached_by (to_time (val_end_body words.now) (time_end_body words.now) (diff_end_body words.now) (place_of w)) }
-{
-    let val_ends = part(words, c.val_ends_at, c.nk);
-    let time_ends = part(words, c.time_ends_at, c.nv);
-    let diff_ends = part(words, c.diff_ends_at, c.nt);
-    to_time(val_ends, time_ends, diff_ends, w)
-}
-
-// Item `i` of that body.
-fn item(words: &[u64], at: usize, count: usize, i: u64) -> u64
-    requires { (at + count ≤ length words.now) × (i < count) }
-    ensures { result ≡ get_or (body at count words.now) i 0 }
-{
-    let place = at + i as usize;
-    words[place]
-}
-
-// The first item of that body, or 0 where there is none.
-fn first(words: &[u64], at: usize, count: usize) -> u64
-    requires { at + count ≤ length words.now }
-    ensures { result ≡ get_or (body at count words.now) 0 0 }
-{
-    if count == 0 {
-        return 0;
-    }
-    item(words, at, count, 0)
-}
-
-// A walker with these ends and every index 0.
-fn at_first(v_end: u64, t_end: u64, d_end: u64) -> Walker
-    ensures { result ≡ first_with v_end t_end d_end }
-{
-    Walker {
+    let chunk = chunk::formed(words)?;
+    let ends = ends_of(chunk);
+    Ok(Walker {
         k: 0,
         v: 0,
         t: 0,
         d: 0,
-        v_end,
-        t_end,
-        d_end,
-    }
+        v_end: first(ends.vals),
+        t_end: first(ends.times),
+        d_end: first(ends.diffs),
+    })
 }
 
-// Where a walk starts: 5 where the words are not a chunk; else every index 0, with the end of each body's list 0, or 0 where there
-// is none.
-pub fn walk_start(words: &[u64]) -> Started
-    ensures { result ≡ started_of words.now }
+// The record at the walker, and the walker past it; none where an index is past its body.
+fn read_at(chunk: Chunk, w: Walker) -> Option<(Record, Walker)>
+    ensures { result ≡ given_by (read chunk.entry.words.now (moved (place_of w))) }
 {
-    let checked = chunk::check(words);
-    let number = checked.number;
-    if number != 0 {
-        return Started {
-            number,
-            walker: at_first(0, 0, 0),
-        };
-    }
-    let c = checked.contents;
-    let v_end = first(words, c.val_ends_at, c.nk);
-    let t_end = first(words, c.time_ends_at, c.nv);
-    let d_end = first(words, c.diff_ends_at, c.nt);
-    Started {
-        number,
-        walker: at_first(v_end, t_end, d_end),
-    }
-}
-
-// The record at four indices that are in their bodies.
-fn record_at(words: &[u64], c: chunk::Contents, w: Walker) -> Record
-    requires { Placed c words.now × (in_bodies words.now (place_of w) ≡ true) }
-    ensures { result ≡ record_of (record_at words.now (place_of w)) }
-{
-    let key = item(words, c.keys_at, c.nk, w.k);
-    let val = item(words, c.vals_at, c.nv, w.v);
-    let time = item(words, c.times_at, c.nt, w.t);
-    let diff = item(words, c.diffs_at, c.nd, w.d);
-    Record {
+    let key = *chunk.keys().get(w.k as usize)?;
+    let val = *chunk.vals().get(w.v as usize)?;
+    let time = *chunk.times().get(w.t as usize)?;
+    let diff = *chunk.diffs().get(w.d as usize)?;
+    let found = Record {
         key,
         val,
         time,
         diff,
-    }
+    };
+    Some((found, Walker { d: w.d + 1, ..w }))
 }
 
-// The record at the walker, and the walker past it.
-fn give(words: &[u64], c: chunk::Contents, w: Walker) -> Stepped
-    requires { Placed c words.now }
-    ensures { result ≡ stepped_by (read words.now (moved (place_of w))) }
+// The next record of a chunk, and the walker past it; none where a place that must be read is past its body.
+fn next_record(chunk: Chunk, w: Walker) -> Option<(Record, Walker)>
+    ensures { result ≡ given_by (read chunk.entry.words.now (to_time (val_end_body chunk.entry.words.now) (time_end_body chunk.entry.words.now) (diff_end_body chunk.entry.words.now) (place_of w))) }
 {
-    let k = w.k as usize;
-    let nk = c.nk;
-    if nk <= k {
-        return Stepped::Refused;
-    }
-    let v = w.v as usize;
-    let nv = c.nv;
-    if nv <= v {
-        return Stepped::Refused;
-    }
-    let t = w.t as usize;
-    let nt = c.nt;
-    if nt <= t {
-        return Stepped::Refused;
-    }
-    let d = w.d as usize;
-    let nd = c.nd;
-    if nd <= d {
-        return Stepped::Refused;
-    }
-    let mut past = w;
-    past.d = w.d + 1;
-    let found = record_at(words, c, w);
-    Stepped::Gave(found, past)
+    let p = ends_of(chunk).to_time(w)?;
+    read_at(chunk, p)
 }
 
-// One step of a walk, on any words and any walker: the next record and the walker past it; done, where the table fits and the diff
-// index is at or past nd; or refused, where the table doesn't fit or a place that must be read is past its body. No index ever goes
-// back, so a whole walk makes no more moves than the chunk has items.
-pub fn walk_step(words: &[u64], w: Walker) -> Stepped
+// One step of a walk, on any words and any walker: the next record and the walker past it; none, where the table fits and the diff
+// index is at or past nd; or 5, where the table doesn't fit or a place that must be read is past its body. No index ever goes back,
+// so a whole walk makes no more moves than the chunk has items.
+pub fn walk_step(words: &[u64], w: Walker) -> Result<Option<(Record, Walker)>, Refusal>
     ensures { result ≡ stepped_by (step words.now (place_of w)) }
 {
-    let c = chunk::read_contents(words);
-    let fits = c.fits;
-    if !fits {
-        return Stepped::Refused;
+    let contents = chunk::read_contents(words).ok_or(Refusal::Malformed)?;
+    if contents.nd <= w.d as usize {
+        return Ok(None);
     }
-    let at = w.d as usize;
-    let count = c.nd;
-    if count <= at {
-        return Stepped::Done;
-    }
-    let reached = move_on(words, c, w);
-    let Reached::At(p) = reached else {
-        return Stepped::Refused;
-    };
-    give(words, c, p)
+    let given = next_record(Chunk { words, contents }, w).ok_or(Refusal::Malformed)?;
+    Ok(Some(given))
 }

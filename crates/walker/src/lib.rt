@@ -4,66 +4,64 @@
 
 ghost use Rattle.std.specs.Prelude.{◌≡◌};
 ghost use Rattle.walk.specs.Answer.{started_of};
-ghost use Rattle.walker.specs.Lent.{stepped_from, taken_of, walker_after, advanced_to, walker_from, begun_at};
+ghost use Rattle.walker.specs.Lent.{stepped_from, taken_of, walker_after, advanced_to, begun_of, walker_from, begun_at};
 
-// What a step says: a record; that there is none left; or 5.
-#[derive(Clone, Copy)]
-pub enum Taken {
-    Gave(walk::Record),
-    Done,
-    Refused,
-}
+use chunk::Refusal;
+use walk::{Record, Walker};
 
-// The walker after a step, and what the step says.
+// The walker after a step, and what the step says: a record; that there is none left; or 5.
+// Kept: beside `Begun`, since the theorems AdvanceSettles and BeginSettles speak of each.
 #[derive(Clone, Copy)]
 pub struct Advanced {
-    pub walker: walk::Walker,
-    pub taken: Taken,
+    pub walker: Walker,
+    pub taken: Result<Option<Record>, Refusal>,
 }
 
-// The walker after a start, and 0 or 5.
+// The walker after a start, and whether it is taken or 5.
 #[derive(Clone, Copy)]
 pub struct Begun {
-    pub walker: walk::Walker,
-    pub number: u64,
+    pub walker: Walker,
+    pub answer: Result<(), Refusal>,
 }
 
 // A step by value, with the walker that is then to stand behind the reference: past the record where one is given, else as it was.
-pub fn advance(words: &[u64], w: walk::Walker) -> Advanced
+pub fn advance(words: &[u64], w: Walker) -> Advanced
     ensures { result ≡ advanced_to w (stepped_from words.now w) }
 {
-    let went = walk::walk_step(words, w);
-    match went {
-        walk::Stepped::Gave(found, past) => Advanced {
+    match walk::walk_step(words, w) {
+        Ok(Some((found, past))) => Advanced {
             walker: past,
-            taken: Taken::Gave(found),
+            taken: Ok(Some(found)),
         },
-        walk::Stepped::Done => Advanced {
+        Ok(None) => Advanced {
             walker: w,
-            taken: Taken::Done,
+            taken: Ok(None),
         },
-        walk::Stepped::Refused => Advanced {
+        Err(refusal) => Advanced {
             walker: w,
-            taken: Taken::Refused,
+            taken: Err(refusal),
         },
     }
 }
 
 // A start by value, with the walker that is then to stand behind the reference: the new one, or on 5 as it was.
-pub fn begin(words: &[u64], w: walk::Walker) -> Begun
+pub fn begin(words: &[u64], w: Walker) -> Begun
     ensures { result ≡ begun_at w (started_of words.now) }
 {
-    let started = walk::walk_start(words);
-    let number = started.number;
-    if number != 0 {
-        return Begun { walker: w, number };
+    match walk::walk_start(words) {
+        Ok(walker) => Begun {
+            walker,
+            answer: Ok(()),
+        },
+        Err(refusal) => Begun {
+            walker: w,
+            answer: Err(refusal),
+        },
     }
-    let walker = started.walker;
-    Begun { walker, number }
 }
 
 // One step of the walker that the caller lends, on any words and any walker.
-pub fn step_in_place(words: &[u64], w: &mut walk::Walker) -> Taken
+pub fn step_in_place(words: &[u64], w: &mut Walker) -> Result<Option<Record>, Refusal>
     ensures { (result ≡ taken_of (stepped_from words.now w.old)) × (w.new ≡ walker_after w.old (stepped_from words.now w.old)) }
 {
     let a = advance(words, *w);
@@ -71,17 +69,17 @@ pub fn step_in_place(words: &[u64], w: &mut walk::Walker) -> Taken
     a.taken
 }
 
-// A start of the walker that the caller lends, on any words: 0 and the walker stands at the first place, or 5 and it is as it was.
-pub fn start_in_place(words: &[u64], w: &mut walk::Walker) -> u64
-    ensures { (result ≡ (started_of words.now).number) × (w.new ≡ walker_from w.old (started_of words.now)) }
+// A start of the walker that the caller lends, on any words: it stands at the first place, or on 5 it is as it was.
+pub fn start_in_place(words: &[u64], w: &mut Walker) -> Result<(), Refusal>
+    ensures { (result ≡ begun_of (started_of words.now)) × (w.new ≡ walker_from w.old (started_of words.now)) }
 {
     let s = begin(words, *w);
     *w = s.walker;
-    s.number
+    s.answer
 }
 
 // A step through the lent form, for callers that hold their walker by value: it is lent here, stepped in place and handed back.
-pub fn step_lent(words: &[u64], w: walk::Walker) -> Advanced
+pub fn step_lent(words: &[u64], w: Walker) -> Advanced
     ensures { result ≡ advanced_to w (stepped_from words.now w) }
 {
     let mut held = w;

@@ -1,21 +1,25 @@
 -- Where the three parts end: the first refusal is the answer, and what was written before it stays.
-use Prim.Native.Nat.{ℕ, zero, suc}
+use Prim.Native.Nat.{ℕ, zero, suc, ◌<◌}
 use mathlib.Core.Path.{◌≡◌, refl, sym, ap, ◌∙◌}
 use mathlib.Core.List.{List}
 use native.Mathlib.Omega.{arith}
+use Rattle.std.specs.Prelude.{Err}
+use Rattle.chunk.specs.declared.Refusal.{Refusal}
+use Rattle.chunk.specs.Answer.{number_of}
+use Rattle.chunk.proofs.Refusals.{number_above}
 use Rattle.merge.specs.declared.Survivor.{Survivor}
-use Rattle.merge.specs.declared.Joined.{Joined}
+use Rattle.merge.specs.declared.Survivor.TheVariants.{Nobody}
 use Rattle.reports.specs.Merge.{Survives, nobody, the_first, the_second, merge_number, merge_out}
-use Rattle.merge.specs.Outcome.{survivor_of, answer_by, merge_answer, MergeAnswers}
+use Rattle.merge.specs.Outcome.{Joined, joined_of, survivor_of, answer_by, merge_answer, MergeAnswers}
 use Rattle.retain.specs.Cut.{filter_number, filter_out}
 use Rattle.whole.specs.Whole.{and_then, once_done, survives_of, survives, rest_number, rest_out, whole_number, clean_out, left_out, WholeAnswers}
 
 -- ---- answers
 
 -- an answer has its number
-number_of : (n : ℕ) (who : Survives) → (answer_by n who).number ≡ n
-number_of zero who = refl
-number_of (suc n) who = refl
+its_number : (n : ℕ) (who : Survives) → (answer_by n who).number ≡ n
+its_number zero who = refl
+its_number (suc n) who = refl
 
 -- and, accepted, its survivor
 survivor_of_lem : (n : ℕ) (who : Survives) → n ≡ 0 → (answer_by n who).survivor ≡ survivor_of who
@@ -26,6 +30,17 @@ survivor_of_lem (suc n) who h = absurd (omega arith)
 refused_alike : (n : ℕ) (who : Survives) → (n ≡ 0 → ⊥) → answer_by n nobody ≡ answer_by n who
 refused_alike zero who h = absurd (h refl)
 refused_alike (suc n) who h = refl
+
+-- a refusal's answer is by its number, which is not 0
+by_number : (n : ℕ) → 0 < n → record { number = n; survivor = Nobody } ≡ answer_by n nobody
+by_number zero h = absurd (omega (arith, h))
+by_number (suc n) h = refl
+
+pub refusal_answer : (e : Refusal) → joined_of (Err e) ≡ answer_by (number_of e) nobody
+refusal_answer e = by_number (number_of e) (number_above e)
+
+pub not_zero : (e : Refusal) → number_of e ≡ 0 → ⊥
+not_zero e z = let h = number_above e in omega arith
 
 -- who survives is told as it is
 pub told : (who : Survives) → survives_of (survivor_of who) ≡ who
@@ -70,7 +85,7 @@ module _ (a b scratch out clean rest : List ℕ) (r : Joined) (after used : List
   merge_answer_lem = m.answers
 
   merge-number : r.number ≡ merge_number a b scratch out
-  merge-number = ap (λ (j : Joined). j.number) merge_answer_lem ∙ number_of (merge_number a b scratch out) (survives a b)
+  merge-number = ap (λ (j : Joined). j.number) merge_answer_lem ∙ its_number (merge_number a b scratch out) (survives a b)
 
   -- the merge is refused
   pub merge_refused : (r.number ≡ 0 → ⊥) → WholeAnswers a b scratch out clean rest r after clean rest used

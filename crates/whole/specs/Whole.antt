@@ -4,9 +4,9 @@ use Rattle.std.specs.Prelude.{ℕ, zero, suc, ◌≡◌, List}
 use Rattle.chunk.specs.Words.{entries}
 use Rattle.merge.specs.declared.Survivor.{Survivor}
 use Rattle.merge.specs.declared.Survivor.TheVariants.{Nobody, First, Second}
-use Rattle.merge.specs.declared.Joined.{Joined}
 use Rattle.reports.specs.Merge.{Survives, nobody, the_first, the_second, survivor, merge_number, merge_out, suffix_number, suffix_out}
-use Rattle.merge.specs.Outcome.{answer_by}
+use Rattle.merge.specs.Outcome.{Joined, answer_by}
+use Rattle.merge.specs.Suffix.{place_of}
 use Rattle.reports.specs.Refusals.{Refused}
 use Rattle.retain.specs.Cut.{filter_number, filter_out}
 
@@ -37,8 +37,8 @@ rest_out (the_second p) a b rest = suffix_out p b rest
 -- who survives, as the call said it
 abbrev pub survives_of : Survivor → Survives
 survives_of Nobody = nobody
-survives_of (First k v t) = the_first (record { k = k; v = v; t = t })
-survives_of (Second k v t) = the_second (record { k = k; v = v; t = t })
+survives_of (First c) = the_first (place_of c)
+survives_of (Second c) = the_second (place_of c)
 
 -- ---- the three
 

@@ -36,15 +36,12 @@ pub fn cleaned() -> [u64; 16] {
 }
 
 fn filtered(words: &[u64], room: usize, number: u64, told: [u64; 64]) -> bool {
-    if 64 < room {
-        return false;
-    }
-    let mut out = [5; 64];
-    let got = retain::filter_zero(words, &mut out[0..room]);
-    if got != number {
-        return false;
-    }
-    crate::same64(&out, &told)
+    crate::writes(
+        |out| crate::number(retain::filter_zero(words, out)),
+        room,
+        number,
+        told,
+    )
 }
 
 pub fn filters(rt: &impl Print) -> io::Result<()> {
@@ -52,7 +49,7 @@ pub fn filters(rt: &impl Print) -> io::Result<()> {
     let clean = cleaned();
     crate::say(
         rt,
-        b"filter_zero: A merged with B",
+        "filter_zero: A merged with B",
         filtered(&m, 18, 0, crate::front(&clean)),
     )?;
     short_filter(rt, &m)?;
@@ -60,7 +57,7 @@ pub fn filters(rt: &impl Print) -> io::Result<()> {
     let empty = [0, 0, 0, 0];
     crate::say(
         rt,
-        b"filter_zero: a truck whose only fault cancelled",
+        "filter_zero: a truck whose only fault cancelled",
         filtered(&none, 10, 0, crate::front(&empty)),
     )
 }
@@ -68,7 +65,7 @@ pub fn filters(rt: &impl Print) -> io::Result<()> {
 fn short_filter(rt: &impl Print, m: &[u64]) -> io::Result<()> {
     crate::say(
         rt,
-        b"filter_zero: a word short of room",
+        "filter_zero: a word short of room",
         filtered(m, 17, 13, [5; 64]),
     )
 }
@@ -76,14 +73,8 @@ fn short_filter(rt: &impl Print, m: &[u64]) -> io::Result<()> {
 fn split(words: &[u64], n: u64, first: [u64; 64], rest: [u64; 64]) -> bool {
     let mut one = [5; 64];
     let mut two = [5; 64];
-    let got = split::split_at(words, n, &mut one[0..26], &mut two[0..26]);
-    if got != 0 {
-        return false;
-    }
-    if !crate::same64(&one, &first) {
-        return false;
-    }
-    crate::same64(&two, &rest)
+    let got = split::split_at(words, n, &mut one[..26], &mut two[..26]);
+    got.is_ok() && one == first && two == rest
 }
 
 pub fn splits(rt: &impl Print) -> io::Result<()> {
@@ -95,30 +86,30 @@ fn split_a(rt: &impl Print, a: &[u64]) -> io::Result<()> {
     let empty = [0, 0, 0, 0];
     let none = crate::front(&empty);
     let all = crate::front(a);
-    crate::say(rt, b"split_at: A at 0", split(a, 0, none, all))?;
-    crate::say(rt, b"split_at: A at 4", split(a, 4, all, none))?;
+    crate::say(rt, "split_at: A at 0", split(a, 0, none, all))?;
+    crate::say(rt, "split_at: A at 4", split(a, 4, all, none))?;
     crate::say(
         rt,
-        b"split_at: A at 2^64 - 1",
+        "split_at: A at 2^64 - 1",
         split(a, 0xffff_ffff_ffff_ffff, all, none),
     )?;
     let first = earlier();
     let rest = later();
     crate::say(
         rt,
-        b"split_at: A at 2",
+        "split_at: A at 2",
         split(a, 2, crate::front(&first), crate::front(&rest)),
     )
 }
 
 fn suffixed(words: &[u64], k: usize, v: usize, t: usize, number: u64, told: [u64; 64]) -> bool {
-    let mut out = [5; 64];
     let cursor = merge::Cursor { k, v, t };
-    let got = merge::suffix_chunk(cursor, words, &mut out[0..26]);
-    if got != number {
-        return false;
-    }
-    crate::same64(&out, &told)
+    crate::writes(
+        |out| crate::number(merge::suffix_chunk(cursor, words, out)),
+        26,
+        number,
+        told,
+    )
 }
 
 pub fn suffixes(rt: &impl Print) -> io::Result<()> {
@@ -130,36 +121,33 @@ fn suffix_a(rt: &impl Print, a: &[u64]) -> io::Result<()> {
     let rest = later();
     crate::say(
         rt,
-        b"suffix_chunk: A from (0, 1, 2)",
+        "suffix_chunk: A from (0, 1, 2)",
         suffixed(a, 0, 1, 2, 0, crate::front(&rest)),
     )?;
     crate::say(
         rt,
-        b"suffix_chunk: A from its first position",
+        "suffix_chunk: A from its first position",
         suffixed(a, 0, 0, 0, 0, crate::front(a)),
     )?;
     crate::say(
         rt,
-        b"suffix_chunk: the value list after",
+        "suffix_chunk: the value list after",
         suffixed(a, 0, 2, 2, 8, [5; 64]),
     )?;
     crate::say(
         rt,
-        b"suffix_chunk: a time past the last",
+        "suffix_chunk: a time past the last",
         suffixed(a, 1, 2, 4, 8, [5; 64]),
     )
 }
 
 fn melded(a: &[u64], b: &[u64], room: usize, number: u64, told: [u64; 64]) -> bool {
-    if 64 < room {
-        return false;
-    }
-    let mut out = [5; 64];
-    let got = meld::meld(a, b, &mut out[0..room]);
-    if got != number {
-        return false;
-    }
-    crate::same64(&out, &told)
+    crate::writes(
+        |out| crate::number(meld::meld(a, b, out)),
+        room,
+        number,
+        told,
+    )
 }
 
 pub fn melds(rt: &impl Print) -> io::Result<()> {
@@ -170,21 +158,21 @@ pub fn melds(rt: &impl Print) -> io::Result<()> {
 }
 
 fn meld_parts(rt: &impl Print, a: &[u64], first: &[u64], rest: &[u64]) -> io::Result<()> {
-    crate::say(rt, b"meld: A with itself", melded(a, a, 64, 11, [5; 64]))?;
+    crate::say(rt, "meld: A with itself", melded(a, a, 64, 11, [5; 64]))?;
     crate::say(
         rt,
-        b"meld: the two parts of A",
+        "meld: the two parts of A",
         melded(first, rest, 28, 0, crate::front(a)),
     )?;
     crate::say(
         rt,
-        b"meld: the same a word short of room",
+        "meld: the same a word short of room",
         melded(first, rest, 27, 13, [5; 64]),
     )?;
     let empty = [0, 0, 0, 0];
     crate::say(
         rt,
-        b"meld: A after the empty chunk",
+        "meld: A after the empty chunk",
         melded(&empty, a, 26, 0, crate::front(a)),
     )
 }

@@ -1,5 +1,8 @@
 // Extract: the open records kept, the others shipped, and the frontier of the kept times.
-use retain::{Extracted, Frontier, Verdict};
+ghost use Rattle.std.specs.Prelude.{◌≤◌};
+
+use chunk::Refusal;
+use retain::{Extracted, Frontier};
 use std::io;
 
 // A frontier of up to two corners.
@@ -13,30 +16,23 @@ fn corners(count: u64, first: u64, second: u64) -> Frontier {
     }
 }
 
-// 0 all kept, 1 all shipped, 2 mixed.
-fn number_of(verdict: Verdict) -> u64 {
-    match verdict {
-        Verdict::AllKept => 0,
-        Verdict::AllShipped => 1,
-        Verdict::Mixed => 2,
+// The number, the verdict (0 all kept, 1 all shipped, 2 mixed), and the frontier's count with its first three places; after a refusal's number zeros.
+// Kept: as numbers, as document 01 gives the answers.
+fn numbers(got: Result<Extracted, Refusal>) -> [u64; 6] {
+    match got {
+        Ok(Extracted { verdict, frontier }) => {
+            let places = frontier.corners;
+            [
+                0,
+                verdict as u64,
+                frontier.count,
+                places[0],
+                places[1],
+                places[2],
+            ]
+        }
+        Err(refusal) => [refusal.number(), 0, 0, 0, 0, 0],
     }
-}
-
-// The number, the verdict, and the frontier's count with its first three places.
-fn answers(got: Extracted, told: [u64; 6]) -> bool {
-    let which = got.verdict;
-    let verdict = number_of(which);
-    let frontier = got.frontier;
-    let places = frontier.corners;
-    let said = [
-        got.number,
-        verdict,
-        frontier.count,
-        places[0],
-        places[1],
-        places[2],
-    ];
-    crate::same(&said, &told)
 }
 
 fn extracted(
@@ -48,14 +44,8 @@ fn extracted(
 ) -> bool {
     let mut one = [5; 64];
     let mut two = [5; 64];
-    let got = retain::extract(a, upper, &mut one[0..26], &mut two[0..26]);
-    if !answers(got, told) {
-        return false;
-    }
-    if !crate::same64(&one, &kept) {
-        return false;
-    }
-    crate::same64(&two, &shipped)
+    let got = retain::extract(a, upper, &mut one[..26], &mut two[..26]);
+    numbers(got) == told && one == kept && two == shipped
 }
 
 pub fn extracts(rt: &impl Print) -> io::Result<()> {
@@ -96,7 +86,7 @@ fn two_corners(rt: &impl Print, a: &[u64]) -> io::Result<()> {
         crate::front(&kept),
         crate::front(&shipped),
     );
-    crate::say(rt, b"extract: A at (1, 9) and (2, 0)", right)
+    crate::say(rt, "extract: A at (1, 9) and (2, 0)", right)
 }
 
 // At (1, 9) alone: (2, 0) is later in the sort order, and not at or above it in tick.
@@ -113,7 +103,7 @@ fn one_corner(rt: &impl Print, a: &[u64]) -> io::Result<()> {
         crate::front(&kept),
         crate::front(&shipped),
     );
-    crate::say(rt, b"extract: A at (1, 9) alone", right)
+    crate::say(rt, "extract: A at (1, 9) alone", right)
 }
 
 // With the empty frontier nothing is open; a frontier out of order is refused.
@@ -126,7 +116,7 @@ fn no_corner(rt: &impl Print, a: &[u64]) -> io::Result<()> {
         crate::front(&empty),
         crate::front(a),
     );
-    crate::say(rt, b"extract: A at no corner", right)?;
+    crate::say(rt, "extract: A at no corner", right)?;
     let fallen = extracted(
         a,
         corners(2, 8589934592, 4294967305),
@@ -134,48 +124,40 @@ fn no_corner(rt: &impl Print, a: &[u64]) -> io::Result<()> {
         [5; 64],
         [5; 64],
     );
-    crate::say(rt, b"extract: corners out of order", fallen)?;
+    crate::say(rt, "extract: corners out of order", fallen)?;
     let many = extracted(a, corners(129, 0, 0), [9, 0, 0, 0, 0, 0], [5; 64], [5; 64]);
-    crate::say(rt, b"extract: a count of 129", many)
+    crate::say(rt, "extract: a count of 129", many)
 }
 
 // A chunk of n times of one fault, ignitions rising and ticks falling: none is at or below another.
-fn stair(n: usize) -> [u64; 400] {
+// Kept: an iterator for each of the three parts that the loop fills would hold three cuts of the words, and read no plainer.
+fn stair(n: usize) -> [u64; 400]
+    requires { n ≤ 130 }
+{
     let mut out = [0; 400];
-    if 130 < n {
-        return out;
-    }
-    out[0] = 1;
-    out[1] = 1;
-    out[2] = n as u64;
-    out[3] = n as u64;
-    out[4] = 7;
-    out[5] = 1;
-    out[6] = 3;
-    out[7] = n as u64;
-    let mut i = 0;
-    while i < n {
+    let count = n as u64;
+    out[..8].copy_from_slice(&[1, 1, count, count, 7, 1, 3, count]);
+    for i in 0..n {
         out[8 + i] = (i as u64 + 1) * 0x1_0000_0000 + (200 - i as u64);
         out[8 + n + i] = i as u64 + 1;
         out[8 + n + n + i] = 1;
-        i += 1;
     }
     out
 }
 
 // All of it kept: its number and how many corners there are.
-fn climbed(n: usize, number: u64, count: u64) -> bool {
+fn climbed(n: usize, number: u64, count: u64) -> bool
+    requires { n ≤ 130 }
+{
     let words = stair(n);
     let mut kept = [5; 400];
     let mut shipped = [5; 400];
     let got = retain::extract(&words, corners(1, 0, 0), &mut kept, &mut shipped);
-    if got.number != number {
-        return false;
-    }
-    got.frontier.count == count
+    let said = numbers(got);
+    said[0] == number && said[2] == count
 }
 
 fn stairs(rt: &impl Print) -> io::Result<()> {
-    crate::say(rt, b"extract: 128 kept corners", climbed(128, 0, 128))?;
-    crate::say(rt, b"extract: 129 kept corners", climbed(129, 10, 0))
+    crate::say(rt, "extract: 128 kept corners", climbed(128, 0, 128))?;
+    crate::say(rt, "extract: 129 kept corners", climbed(129, 10, 0))
 }

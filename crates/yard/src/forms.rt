@@ -26,25 +26,23 @@ fn four() -> [u64; 16] {
 
 // Forms `updates` into the first `room` of 64 words of 5, and compares all of them afterwards.
 fn formed(updates: &[u64], room: usize, number: u64, told: [u64; 64]) -> bool {
-    if 64 < room {
-        return false;
-    }
-    let mut out = [5; 64];
-    let got = form::form(updates, &mut out[0..room]);
-    if got != number {
-        return false;
-    }
-    crate::same64(&out, &told)
+    crate::writes(
+        |out| crate::number(form::form(updates, out)),
+        room,
+        number,
+        told,
+    )
 }
 
 // One update.
 fn one(key: u64, val: u64, time: u64, diff: u64, number: u64) -> bool {
     let update = [key, val, time, diff];
     let chunk = [1, 1, 1, 1, key, 1, val, 1, time, 1, diff];
-    let mut told = crate::front(&chunk);
-    if number != 0 {
-        told = [5; 64];
-    }
+    let told = if number == 0 {
+        crate::front(&chunk)
+    } else {
+        [5; 64]
+    };
     formed(&update, 11, number, told)
 }
 
@@ -52,16 +50,16 @@ pub fn forms(rt: &impl Print) -> io::Result<()> {
     let us = four();
     let untouched = [5; 64];
     let empty = crate::front(&[0, 0, 0, 0]);
-    crate::say(rt, b"form: no updates", none(&us, empty))?;
+    crate::say(rt, "form: no updates", none(&us, empty))?;
     let cancel = [7, 3, 1, 1, 7, 3, 1, 18446744073709551615];
     crate::say(
         rt,
-        b"form: +1 and -1 at one position",
+        "form: +1 and -1 at one position",
         formed(&cancel, 18, 0, empty),
     )?;
     crate::say(
         rt,
-        b"form: the same in 17 words",
+        "form: the same in 17 words",
         formed(&cancel, 17, 13, untouched),
     )?;
     whole(rt, &us)?;
@@ -72,8 +70,8 @@ pub fn forms(rt: &impl Print) -> io::Result<()> {
 // The four updates, with room and a word short of it.
 fn whole(rt: &impl Print, us: &[u64]) -> io::Result<()> {
     let a = crate::chunk_a();
-    crate::say(rt, b"form: A", formed(us, 32, 0, crate::front(&a)))?;
-    crate::say(rt, b"form: A in 31 words", formed(us, 31, 13, [5; 64]))
+    crate::say(rt, "form: A", formed(us, 32, 0, crate::front(&a)))?;
+    crate::say(rt, "form: A in 31 words", formed(us, 31, 13, [5; 64]))
 }
 
 // No updates at all, in exactly four words.
@@ -86,41 +84,37 @@ fn refusals(rt: &impl Print) -> io::Result<()> {
     let ragged = [7, 3, 1, 1, 7, 3, 1];
     crate::say(
         rt,
-        b"form: three words over",
+        "form: three words over",
         formed(&ragged, 64, 1, untouched),
     )?;
     let keys = [9, 3, 1, 1, 7, 3, 1, 1];
-    crate::say(rt, b"form: a key falls", formed(&keys, 64, 3, untouched))?;
+    crate::say(rt, "form: a key falls", formed(&keys, 64, 3, untouched))?;
     let vals = [7, 4, 1, 1, 7, 3, 1, 1];
-    crate::say(rt, b"form: a value falls", formed(&vals, 64, 3, untouched))?;
+    crate::say(rt, "form: a value falls", formed(&vals, 64, 3, untouched))?;
     let times = [7, 3, 2, 1, 7, 3, 1, 1];
-    crate::say(rt, b"form: a time falls", formed(&times, 64, 3, untouched))
+    crate::say(rt, "form: a time falls", formed(&times, 64, 3, untouched))
 }
 
 fn ranges(rt: &impl Print) -> io::Result<()> {
+    crate::say(rt, "form: a diff of 2^40", one(7, 3, 1, 0x100_0000_0000, 0))?;
     crate::say(
         rt,
-        b"form: a diff of 2^40",
-        one(7, 3, 1, 0x100_0000_0000, 0),
-    )?;
-    crate::say(
-        rt,
-        b"form: a diff of 2^40 + 1",
+        "form: a diff of 2^40 + 1",
         one(7, 3, 1, 0x100_0000_0001, 4),
     )?;
     crate::say(
         rt,
-        b"form: a diff of -2^40",
+        "form: a diff of -2^40",
         one(7, 3, 1, 0xffff_ff00_0000_0000, 0),
     )?;
     crate::say(
         rt,
-        b"form: a diff of -2^40 - 1",
+        "form: a diff of -2^40 - 1",
         one(7, 3, 1, 0xffff_feff_ffff_ffff, 4),
     )?;
     crate::say(
         rt,
-        b"form: any ignition and tick",
+        "form: any ignition and tick",
         one(
             0xffff_ffff_ffff_ffff,
             0xffff_ffff_ffff_ffff,
@@ -155,20 +149,13 @@ fn shuffled() -> [u64; 16] {
 
 // Forms the shuffled updates, and compares both lent slices afterwards.
 fn unsorted(room: usize, number: u64, left: [u64; 64], told: [u64; 64]) -> bool {
-    if 64 < room {
-        return false;
-    }
-    let mut out = [5; 64];
-    let us = shuffled();
-    let mut lent = crate::front(&us);
-    let got = form::form_unsorted(&mut lent[0..16], &mut out[0..room]);
-    if got != number {
-        return false;
-    }
-    if !crate::same64(&lent, &left) {
-        return false;
-    }
-    crate::same64(&out, &told)
+    let mut lent = crate::front(&shuffled());
+    crate::writes(
+        |out| crate::number(form::form_unsorted(&mut lent[..16], out)),
+        room,
+        number,
+        told,
+    ) && lent == left
 }
 
 pub fn unsorted_forms(rt: &impl Print) -> io::Result<()> {
@@ -178,12 +165,12 @@ pub fn unsorted_forms(rt: &impl Print) -> io::Result<()> {
     let chunk = crate::front(&a);
     crate::say(
         rt,
-        b"form_unsorted: A",
+        "form_unsorted: A",
         unsorted(32, 0, crate::front(&sorted), chunk),
     )?;
     crate::say(
         rt,
-        b"form_unsorted: A in 31 words",
+        "form_unsorted: A in 31 words",
         unsorted(31, 13, crate::front(&mixed), [5; 64]),
     )
 }

@@ -2,7 +2,8 @@
 // or a lent word afterwards, is not what the document says.
 #![tactic(auto)]
 
-use std::io::{self, Write};
+use chunk::Refusal;
+use std::io;
 
 mod cuts;
 mod extracts;
@@ -31,55 +32,34 @@ fn main(rt: HostRuntime) -> io::Result<()> {
 }
 
 // One line for one example.
-fn say(rt: &impl Print, name: &[u8], right: bool) -> io::Result<()> {
-    let mut out = io::writer(rt);
-    out.write_all(name)?;
-    if right {
-        out.write_all(b": ok\n")
-    } else {
-        out.write_all(b": DIFFERS\n")
-    }
-}
-
-// Whether two slices hold the same words.
-fn same(a: &[u64], b: &[u64]) -> bool {
-    if a.len() != b.len() {
-        return false;
-    }
-    let mut i = 0;
-    while i < a.len() {
-        if a[i] != b[i] {
-            return false;
-        }
-        i += 1;
-    }
-    true
-}
-
-// The same of two buffers of 64 words, the lent outputs of the examples.
-fn same64(a: &[u64; 64], b: &[u64; 64]) -> bool {
-    let mut i = 0;
-    while i < 64 {
-        if a[i] != b[i] {
-            return false;
-        }
-        i += 1;
-    }
-    true
+fn say(rt: &impl Print, name: &str, right: bool) -> io::Result<()> {
+    println!(rt; "{name}: {}", if right { "ok" } else { "DIFFERS" })
 }
 
 // These words at the front of 64 that are 5.
 fn front(words: &[u64]) -> [u64; 64] {
     let mut out = [5; 64];
-    let mut i = 0;
-    while i < words.len() {
-        if 64 <= i {
-            return out;
-        }
-        out[i] = words[i];
-        i += 1;
+    for (place, word) in out.iter_mut().zip(words) {
+        *place = *word;
     }
     out
+}
+
+// The number of an answer: 0 where the call is accepted, else its refusal's.
+// Kept: the examples of document 01 give numbers, so these are compared, and not the refusals' names.
+fn number<T: Copy>(answer: Result<T, Refusal>) -> u64 {
+    answer.map_or_else(|refusal| refusal.number(), |_| 0)
+}
+
+// Whether a call that is lent the first `room` of 64 words of 5 answers this number and leaves all of them as told.
+fn writes<F: FnOnce(&mut [u64]) -> u64>(call: F, room: usize, number: u64, told: [u64; 64]) -> bool
+    requires { F.IsAlwaysCallable call }
+{
+    let mut out = [5; 64];
+    match out.get_mut(..room) {
+        Some(lent) => call(lent) == number && out == told,
+        None => false,
+    }
 }
 
 // Chunk A of the document.

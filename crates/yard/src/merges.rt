@@ -1,15 +1,18 @@
 // Merges: the number, the survivor with its cursor, every word of the output, and the scratch where a refusal leaves it as it was.
-use merge::{Joined, Survivor};
+ghost use Rattle.std.specs.Prelude.{◌≤◌};
+
+use chunk::Refusal;
+use merge::Survivor;
 use std::io;
 
-// The number, who survives (0 nobody, 1 the first, 2 the second), and its cursor.
-fn numbers(got: Joined) -> [u64; 5] {
-    let number = got.number;
-    let who = got.survivor;
-    match who {
-        Survivor::Nobody => [number, 0, 0, 0, 0],
-        Survivor::First(k, v, t) => [number, 1, k as u64, v as u64, t as u64],
-        Survivor::Second(k, v, t) => [number, 2, k as u64, v as u64, t as u64],
+// The number, who survives (0 nobody, 1 the first, 2 the second), and its cursor; after a refusal's number zeros.
+// Kept: as numbers, as document 01 gives the answers.
+fn numbers(got: Result<Survivor, Refusal>) -> [u64; 5] {
+    match got {
+        Ok(Survivor::Nobody) => [0; 5],
+        Ok(Survivor::First(c)) => [0, 1, c.k as u64, c.v as u64, c.t as u64],
+        Ok(Survivor::Second(c)) => [0, 2, c.k as u64, c.v as u64, c.t as u64],
+        Err(refusal) => [refusal.number(), 0, 0, 0, 0],
     }
 }
 
@@ -22,35 +25,18 @@ fn merged(
     room: usize,
     told: [u64; 5],
     out: [u64; 64],
-) -> bool {
-    if 64 < scratch {
-        return false;
-    }
-    if 64 < room {
-        return false;
-    }
+) -> bool
+    requires { (scratch ≤ 64) × (room ≤ 64) }
+{
     let mut words = [5; 64];
     let mut reports = [held; 64];
-    let got = merge::merge_pair(a, b, &mut reports[0..scratch], &mut words[0..room]);
-    let number = got.number;
-    let said = numbers(got);
-    if !crate::same(&said, &told) {
-        return false;
-    }
-    if left(number) {
-        if !crate::same64(&reports, &[held; 64]) {
-            return false;
-        }
-    }
-    crate::same64(&words, &out)
+    let got = merge::merge_pair(a, b, &mut reports[..scratch], &mut words[..room]);
+    numbers(got) == told && (uses_scratch(got) || reports == [held; 64]) && words == out
 }
 
-// Whether a number leaves the scratch as it was.
-fn left(number: u64) -> bool {
-    if number == 0 {
-        return false;
-    }
-    number != 14
+// Whether a merge that answers this may have changed the scratch.
+fn uses_scratch(got: Result<Survivor, Refusal>) -> bool {
+    matches!(got, Ok(_) | Err(Refusal::Overflows))
 }
 
 // One record of truck 7.
@@ -76,13 +62,13 @@ fn pair(rt: &impl Print, a: &[u64], b: &[u64]) -> io::Result<()> {
     let both = crate::ground::cancelled();
     crate::say(
         rt,
-        b"merge_pair: A and B, A survives at (0, 1, 2)",
+        "merge_pair: A and B, A survives at (0, 1, 2)",
         merged(a, b, 42, 0, 38, [0, 1, 0, 1, 2], crate::front(&both)),
     )?;
     let both = crate::ground::cancelled();
     crate::say(
         rt,
-        b"merge_pair: B and A, over other scratch",
+        "merge_pair: B and A, over other scratch",
         merged(
             b,
             a,
@@ -99,12 +85,12 @@ fn pair(rt: &impl Print, a: &[u64], b: &[u64]) -> io::Result<()> {
 fn rooms(rt: &impl Print, a: &[u64], b: &[u64]) -> io::Result<()> {
     crate::say(
         rt,
-        b"merge_pair: a word short of scratch",
+        "merge_pair: a word short of scratch",
         merged(a, b, 41, 9, 38, [12, 0, 0, 0, 0], [5; 64]),
     )?;
     crate::say(
         rt,
-        b"merge_pair: a word short of room",
+        "merge_pair: a word short of room",
         merged(a, b, 42, 9, 37, [13, 0, 0, 0, 0], [5; 64]),
     )
 }
@@ -113,12 +99,12 @@ fn rooms(rt: &impl Print, a: &[u64], b: &[u64]) -> io::Result<()> {
 fn sums(rt: &impl Print, most: &[u64], near: &[u64], step: &[u64]) -> io::Result<()> {
     crate::say(
         rt,
-        b"merge_pair: 2^63 - 1 with 1",
+        "merge_pair: 2^63 - 1 with 1",
         merged(most, step, 18, 0, 18, [14, 0, 0, 0, 0], [5; 64]),
     )?;
     crate::say(
         rt,
-        b"merge_pair: 2^63 - 2 with 1",
+        "merge_pair: 2^63 - 2 with 1",
         merged(near, step, 18, 0, 18, [0, 0, 0, 0, 0], crate::front(most)),
     )
 }
@@ -129,19 +115,19 @@ fn orders(rt: &impl Print, a: &[u64], none: &[u64]) -> io::Result<()> {
     let bad = [1, 0, 0, 0];
     crate::say(
         rt,
-        b"merge_pair: an empty chunk before one that is none",
+        "merge_pair: an empty chunk before one that is none",
         merged(&empty, &bad, 60, 9, 60, [7, 0, 0, 0, 0], [5; 64]),
     )?;
     let bad = [1, 0, 0, 0];
     crate::say(
         rt,
-        b"merge_pair: all diffs cancelled, before one that is none",
+        "merge_pair: all diffs cancelled, before one that is none",
         merged(none, &bad, 60, 9, 60, [6, 0, 0, 0, 0], [5; 64]),
     )?;
     let bad = [1, 0, 0, 0];
     crate::say(
         rt,
-        b"merge_pair: words that are no chunk second",
+        "merge_pair: words that are no chunk second",
         merged(a, &bad, 60, 9, 60, [5, 0, 0, 0, 0], [5; 64]),
     )
 }
@@ -155,13 +141,9 @@ fn wholly(
     told: [u64; 5],
     cleaned: [u64; 64],
     left: [u64; 64],
-) -> bool {
-    if 64 < clean {
-        return false;
-    }
-    if 64 < rest {
-        return false;
-    }
+) -> bool
+    requires { (clean ≤ 64) × (rest ≤ 64) }
+{
     let mut reports = [9; 64];
     let mut one = [5; 64];
     let mut two = [5; 64];
@@ -169,23 +151,13 @@ fn wholly(
     let got = whole::merge_whole(
         a,
         b,
-        &mut reports[0..42],
-        &mut one[0..38],
-        &mut two[0..clean],
-        &mut three[0..rest],
+        &mut reports[..42],
+        &mut one[..38],
+        &mut two[..clean],
+        &mut three[..rest],
     );
-    let said = numbers(got);
     let both = crate::ground::cancelled();
-    if !crate::same(&said, &told) {
-        return false;
-    }
-    if !crate::same64(&one, &crate::front(&both)) {
-        return false;
-    }
-    if !crate::same64(&two, &cleaned) {
-        return false;
-    }
-    crate::same64(&three, &left)
+    numbers(got) == told && one == crate::front(&both) && two == cleaned && three == left
 }
 
 pub fn wholes(rt: &impl Print) -> io::Result<()> {
@@ -206,17 +178,17 @@ fn whole_pair(
 ) -> io::Result<()> {
     crate::say(
         rt,
-        b"merge_whole: A and B, filtered, and A's suffix",
+        "merge_whole: A and B, filtered, and A's suffix",
         wholly(a, b, 18, 26, [0, 1, 0, 1, 2], clean, rest),
     )?;
     crate::say(
         rt,
-        b"merge_whole: a word short for the filter",
+        "merge_whole: a word short for the filter",
         wholly(a, b, 17, 26, [13, 0, 0, 0, 0], [5; 64], [5; 64]),
     )?;
     crate::say(
         rt,
-        b"merge_whole: a word short for the suffix",
+        "merge_whole: a word short for the suffix",
         wholly(a, b, 18, 25, [13, 0, 0, 0, 0], clean, [5; 64]),
     )
 }

@@ -1,52 +1,32 @@
 -- `chunk::check` meets its contract.
--- the answer, by whether the slice is well formed
 use Prim.Native.Nat.{ℕ}
-use mathlib.Core.Path.{◌≡◌, sym, ◌∙◌, ap}
-use mathlib.Core.Bool.{Bool, true, false}
+use mathlib.Core.Path.{◌≡◌}
+use mathlib.Core.Bool.{Bool, true}
 use mathlib.Core.List.{List}
-use lib.Dec.{eqb}
+use Rattle.std.specs.Prelude.{Result, Ok}
+use Rattle.std.proofs.lemmas.Result.{err_from_is_err_and}
 use Rattle.chunk.specs.declared.Contents.{Contents}
 use Rattle.chunk.specs.declared.Checked.{Checked}
+use Rattle.chunk.specs.declared.Refusal.{Refusal}
 use Rattle.chunk.specs.Words.{well_formed, settled}
-use Rattle.chunk.specs.Contents.{Placed, contents_of, no_contents}
+use Rattle.chunk.specs.Contents.{contents_in}
 use Rattle.chunk.specs.Check.{checked_of}
-use Rattle.chunk.proofs.Tests.{true-not-false}
-use Rattle.chunk.proofs.WellFormed.{refuted}
-use Rattle.chunk.proofs.Placed.{placed, fits-fits}
+use Rattle.chunk.proofs.Placed.{laid_by, settles_by}
 use Rattle.chunk.proofs.check.Goals as goal
 
-refused : (w : List ℕ) (n : Contents) → n ≡ no_contents → well_formed w ≡ false → ◌≡◌ {A = Checked} (record { number = 5; settled = false; contents = n }) (checked_of w)
-unfolding checked_of
-refused w n h k = rw (h, k)
-
-accepted : (w : List ℕ) (n : Contents) (b : Bool) → n ≡ contents_of w → b ≡ settled w → well_formed w ≡ true → ◌≡◌ {A = Checked} (record { number = 0; settled = b; contents = n }) (checked_of w)
+accepted : (w : List ℕ) (n : Contents) (b : Bool) → n ≡ contents_in w → b ≡ settled w → well_formed w ≡ true → ◌≡◌ {A = Result Checked Refusal} (Ok (record { settled = b; contents = n })) (checked_of w)
 unfolding checked_of
 accepted w n b h l k = rw (k, l, h)
 
-settles : (w : List ℕ) (n : Contents) → Placed n w → eqb n.nd n.nt ≡ settled w
-settles w n p = rw (p.diff_count, p.time_count)
-
--- a table that doesn't fit is not well formed
-unfit : (w : List ℕ) (n : Contents) → n ≡ contents_of w → n.fits ≡ false → well_formed w ≡ false
-unfit w n h k =
-    sym (refuted w (λ p. true-not-false (sym p.table_fits ∙ sym (fits-fits w) ∙ sym (ap (λ (x : Contents). x.fits) h) ∙ k)))
-
--- and one that does has its contents in their places
-found : (w : List ℕ) (n : Contents) → n ≡ contents_of w → n.fits ≡ true → Placed n w
-found w n h k = rw h (placed w (sym (fits-fits w) ∙ sym (ap (λ (x : Contents). x.fits) h) ∙ k))
-
-pub returns-then-not-fits : goal.returns-then-not-fits
-returns-then-not-fits c = refused _ _ c.nothing.ensures (unfit _ _ c.read_contents-found.ensures c.if-not-fits.true)
-
-pub bodies_hold-requires : goal.bodies_hold-requires
-bodies_hold-requires c = found _ _ c.read_contents-found.ensures c.if-not-fits.false
-
-pub returns-then-not-bodies_hold : goal.returns-then-not-bodies_hold
-returns-then-not-bodies_hold c = refused _ _ c.nothing-then-not-bodies_hold.ensures (sym c.bodies_hold.ensures ∙ c.if-not-bodies_hold.true)
+pub returns-in_err-contents : goal.returns-in_err-contents
+unfolding checked_of
+returns-in_err-contents c =
+    let e = c.in_err-contents.ensures in
+    let p = err_from_is_err_and c.from_residual.result c.from_residual.ensures.1 in
+    rw (p.1, p.2) (simp (e.0, e.1))
 
 pub returns : goal.returns
 returns c =
-    let r = c in
-    accepted _ _ _ r.read_contents-found.ensures
-    (settles _ _ (found _ _ r.read_contents-found.ensures c.if-not-fits.false))
-    (sym c.bodies_hold.ensures ∙ c.if-not-bodies_hold.false)
+    let e = c.in_ok-contents.ensures in
+    let h = c.in_ok-contents.field-0 in
+    accepted _ _ _ (rw e.0 at (laid_by h.contents h.words.now h.placed)) (rw e.0 at (settles_by h.contents h.words.now h.placed)) e.1

@@ -1,5 +1,4 @@
 -- `chunk::steps_hold` meets its contract: both tests are what was found so far, and the tests of what is left.
-use Prim.Native.Nat.{◌≤◌, ◌-◌}
 use mathlib.Core.Path.{◌≡◌}
 use mathlib.Core.Bool.{◌&&◌}
 use lib.ListN.{length, drop}
@@ -9,7 +8,4 @@ use Rattle.chunk.proofs.steps_hold.Given as goal
 
 abbrev pub invariant-loop-i : goal.invariant-loop-i
 invariant-loop-i l =
-    (l.i ≤ length l.diffs) × ((ends_step 0 l.ends (length l.diffs) && standing l.diffs) ≡ (l.good && (ends_step l.low (drop l.i l.ends) (length l.diffs) && standing (drop l.i l.diffs))))
-
-abbrev pub decreases-loop-i : goal.decreases-loop-i
-decreases-loop-i l = length l.diffs - l.i
+    (ends_step 0 l.ends (length l.diffs) && standing l.diffs) ≡ (l.good && (ends_step l.low (drop l.i l.ends) (length l.diffs) && standing (drop l.i l.diffs)))

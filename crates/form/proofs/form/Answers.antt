@@ -1,32 +1,37 @@
 -- `form::form` meets its contract: the tests in their order, and then the chunk.
-use Rattle.std.proofs.Common.{length, sym, ◌∙◌, arith}
-use Rattle.form.proofs.Whole.{updates-length, count_few, form_count, form_survey, form_13, form_0}
+use Rattle.std.proofs.Common.{arith}
+use Rattle.std.proofs.lemmas.Result.{err_from_is_err_and}
+use Rattle.sort.proofs.Updates.{count_whole}
+use Rattle.form.proofs.Whole.{count_few, form_count, form_survey, form_13, form_0}
 use Rattle.form.proofs.form.Goals as goal
 
-pub returns-then-miscount-ne0 : goal.returns-then-miscount-ne0
-returns-then-miscount-ne0 c = let g = c.args in form_count g.updates.now g.out.now c.miscounted-miscount.result c.miscounted-miscount.ensures c.if-miscount-ne0.true
+pub returns-in_err-count : goal.returns-in_err-count
+returns-in_err-count c =
+    let e = c.in_err-count.ensures in
+    let p = err_from_is_err_and c.from_residual.result c.from_residual.ensures.1 in
+    rw (p.1, p.2) (form_count _ _ _ e)
 
-pub returns-then-number-ne0 : goal.returns-then-number-ne0
-returns-then-number-ne0 c =
-    let g = c.args in
-    form_survey g.updates.now g.out.now (sym c.miscounted-miscount.ensures ∙ c.if-miscount-ne0.false) c.survey-found.result.number c.survey-found.ensures.number c.if-number-ne0.true
+pub returns-in_err-sizes : goal.returns-in_err-sizes
+returns-in_err-sizes c =
+    let k = c.in_ok-count.ensures in
+    let e = c.in_err-sizes.ensures in
+    let p = err_from_is_err_and c.from_residual-in_err-sizes.result c.from_residual-in_err-sizes.ensures.1 in
+    rw (p.1, p.2) (form_survey _ _ k.0 _ e)
 
 pub returns-then-out-count : goal.returns-then-out-count
 returns-then-out-count c =
-    let g = c.args in
-    form_13 g.updates.now g.out.now (sym c.miscounted-miscount.ensures ∙ c.if-miscount-ne0.false) (sym c.survey-found.ensures.number ∙ c.if-number-ne0.false) c.if-out-count.true
+    let k = c.in_ok-count.ensures in
+    let s = c.in_ok-sizes.ensures in
+    form_13 _ _ k.0 s.0 (omega (arith, k.1))
 
-pub form_sorted-requires : goal.form_sorted-requires
-form_sorted-requires c =
-    let g = c.args in
-    let n = updates-length g.updates.now in
-    let few = count_few (length g.updates.now) (sym c.miscounted-miscount.ensures ∙ c.if-miscount-ne0.false) in
-    record {
-      sizes_value = c.survey-found.ensures.sizes (sym c.survey-found.ensures.number ∙ c.if-number-ne0.false);
-      accepts = record { few = omega (arith, n, few); room = omega (arith, n, c.if-out-count.false) };
-    }
+pub form_sorted-requires-clause-accepts : goal.form_sorted-requires-clause-accepts
+form_sorted-requires-clause-accepts c =
+    let us = c.args.updates.now in
+    let k = c.in_ok-count.ensures in
+    record { few = omega (arith, count_whole us, count_few _ k.0); room = omega (arith, count_whole us, k.1) }
 
 pub returns : goal.returns
 returns c =
-    let g = c.args in
-    form_0 g.updates.now g.out.now (sym c.miscounted-miscount.ensures ∙ c.if-miscount-ne0.false) (sym c.survey-found.ensures.number ∙ c.if-number-ne0.false) _ c.if-out-count.false c.form_sorted.ensures
+    let k = c.in_ok-count.ensures in
+    let s = c.in_ok-sizes.ensures in
+    form_0 _ _ k.0 s.0 _ (omega (arith, k.1)) c.form_sorted.ensures

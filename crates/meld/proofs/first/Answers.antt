@@ -1,9 +1,8 @@
 -- `meld::first` meets its contract.
-use Rattle.meld.proofs.Meeting.{no_first, first_at}
+use Rattle.std.proofs.Common.{◌∙◌}
+use Rattle.std.proofs.lemmas.Option.{unwrap_or-slice_get}
+use Rattle.meld.proofs.Meeting.{first_at}
 use Rattle.meld.proofs.first.Goals as goal
 
-pub returns-then-items-eq0 : goal.returns-then-items-eq0
-returns-then-items-eq0 c = no_first _ c.if-items-eq0.true
-
 pub returns : goal.returns
-returns c = first_at _
+returns c = c.unwrap_or.ensures ∙ rw (c.copied.ensures, c.first.ensures.value, unwrap_or-slice_get) (first_at _)

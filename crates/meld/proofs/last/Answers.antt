@@ -1,9 +1,8 @@
 -- `meld::last` meets its contract.
-use Rattle.meld.proofs.Meeting.{no_last, last_at}
+use Rattle.std.proofs.Common.{◌∙◌}
+use Rattle.std.proofs.lemmas.Option.{unwrap_or-slice_get}
+use Rattle.meld.proofs.Meeting.{last_at}
 use Rattle.meld.proofs.last.Goals as goal
 
-pub returns-then-count-eq0 : goal.returns-then-count-eq0
-returns-then-count-eq0 c = no_last _ c.if-count-eq0.true
-
 pub returns : goal.returns
-returns c = last_at _ c.if-count-eq0.false
+returns c = c.unwrap_or.ensures ∙ rw (c.copied.ensures, c.last.ensures.value, unwrap_or-slice_get) (last_at _)

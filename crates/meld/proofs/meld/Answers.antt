@@ -1,35 +1,24 @@
 -- `meld::meld` meets its contract: a chunk's own refusal, the second's after the first's, and then the two together.
-use Rattle.std.proofs.Common.{sym, ap, ◌∙◌}
-use Rattle.meld.specs.Accepted.{refusal_of}
-use Rattle.meld.proofs.Numbers.{first_out, second_out, both_taken, of_pair}
-use Rattle.meld.proofs.Pair.{checked_holds}
+use Rattle.std.proofs.lemmas.Result.{err_from_is_err_and}
+use Rattle.meld.proofs.Numbers.{first_out, second_out, of_pair}
 use Rattle.meld.proofs.meld.Goals as goal
 
-pub returns-then-number-ne0 : goal.returns-then-number-ne0
-returns-then-number-ne0 c =
-    first_out _ _ _ _ c.if-number-ne0.true (c.refusal-number.ensures ∙ ap refusal_of c.check-first.ensures)
+pub returns-in_err-front : goal.returns-in_err-front
+returns-in_err-front c =
+    let v = c.args in
+    let p = err_from_is_err_and c.from_residual.result c.from_residual.ensures.1 in
+    rw (p.1, p.2) (first_out v.a.now v.b.now v.out.now _ c.in_err-front.ensures)
 
-pub returns-then-other-ne0 : goal.returns-then-other-ne0
-returns-then-other-ne0 c =
-    let e = c in
-    second_out _ _ _ _ (sym (e.refusal-number.ensures ∙ ap refusal_of e.check-first.ensures) ∙ e.if-number-ne0.false) c.if-other-ne0.true
-    (c.refusal-other.ensures ∙ ap refusal_of c.check-second.ensures)
-
-pub meld_settled-requires : goal.meld_settled-requires
-meld_settled-requires c =
-    let e = c in
-    let d = c in
-    record {
-      first = checked_holds _ _ e.check-first.ensures (sym e.refusal-number.ensures ∙ e.if-number-ne0.false);
-      second = checked_holds _ _ d.check-second.ensures (sym d.refusal-other.ensures ∙ d.if-other-ne0.false);
-    }
+pub returns-in_err-back : goal.returns-in_err-back
+returns-in_err-back c =
+    let v = c.args in
+    let p = err_from_is_err_and c.from_residual-in_err-back.result c.from_residual-in_err-back.ensures.1 in
+    let f = c.in_ok-front.ensures in
+    rw (p.1, p.2) (second_out v.a.now v.b.now v.out.now _ f.1 f.2 c.in_err-back.ensures)
 
 pub returns : goal.returns
 returns c =
-    let d = c in
-    let e = c in
-    of_pair _ _ _ _ _
-    (both_taken _ _ _
-    (sym (e.refusal-number.ensures ∙ ap refusal_of e.check-first.ensures) ∙ e.if-number-ne0.false)
-    (sym (d.refusal-other.ensures ∙ ap refusal_of d.check-second.ensures) ∙ d.if-other-ne0.false))
-    c.meld_settled.ensures
+    let v = c.args in
+    let f = c.in_ok-front.ensures in
+    let g = c.in_ok-back.ensures in
+    of_pair v.a.now v.b.now v.out.now _ _ f.1 f.2 g.1 g.2 (rw (f.0, g.0) at c.meld_settled.ensures)

@@ -1,34 +1,44 @@
 -- `meld::meld_settled` meets its contract: each test in its order, and then the chunk of both.
-use Rattle.std.proofs.Common.{sym, ◌∙◌}
-use Rattle.meld.proofs.Pair.{too_many, not_past_lem, no_room, counts, melded}
+use Rattle.std.proofs.Common.{◌≡◌, ◌+◌, sym, ◌∙◌, arith}
+use Rattle.std.specs.Prelude.{Some, None}
+use Rattle.std.proofs.lemmas.Result.{err_from_is_err_and}
+use Rattle.chunk.specs.declared.Refusal.TheVariants.{Overlaps}
+use Rattle.meld.proofs.Numbers.{many, behind}
+use Rattle.meld.proofs.Meeting.{met_by, unmet_by}
+use Rattle.meld.proofs.Pair.{times_many, times_few, no_room, counts, melded}
 use Rattle.meld.proofs.meld_settled.Goals as goal
 
-pub returns-then-not-within : goal.returns-then-not-within
-returns-then-not-within c =
-    let s = c in
-    let v = s.args in
-    too_many v.front v.back v.a.now v.b.now v.out.now s.requires (sym c.within.ensures ∙ c.if-not-within.true)
+pub returns-then-is_none : goal.returns-then-is_none
+returns-then-is_none c =
+    let v = c.args in
+    many _ _ _ (times_many c.layout.ensures c.is_none.ensures (λ i. v.front.placed.time_count i + v.back.placed.time_count i) c.if-is_none.true)
 
-pub returns-then-not-follows : goal.returns-then-not-follows
-returns-then-not-follows c =
-    let s = c in
-    let v = s.args in
-    not_past_lem v.front v.back v.a.now v.b.now v.out.now s.requires (sym c.within.ensures ∙ c.if-not-within.false) _ c.seam_between-seam.ensures c.if-not-follows.true
+pub returns-in_err-seam : goal.returns-in_err-seam
+returns-in_err-seam c =
+    let v = c.args in
+    let few = times_few c.layout.ensures c.is_none.ensures (λ i. v.front.placed.time_count i + v.back.placed.time_count i) c.if-is_none.false in
+    let p = err_from_is_err_and c.from_residual.result c.from_residual.ensures.1 in
+    let n : c.seam_between.result ≡ None = grind arith in
+    let o : c.in_err-seam.field-0.0 ≡ Overlaps = grind arith in
+    rw (p.1, p.2, o) (behind _ _ _ few (unmet_by _ _ (sym c.seam_between.ensures ∙ n)))
 
 pub returns-then-out-room : goal.returns-then-out-room
 returns-then-out-room c =
-    let s = c in
-    let v = s.args in
-    no_room v.front v.back v.a.now v.b.now v.out.now s.requires (sym c.within.ensures ∙ c.if-not-within.false) _ c.seam_between-seam.ensures c.if-not-follows.false c.if-out-room.true
+    let v = c.args in
+    let few = times_few c.layout.ensures c.is_none.ensures (λ i. v.front.placed.time_count i + v.back.placed.time_count i) c.if-is_none.false in
+    let s : c.seam_between.result ≡ Some c.in_ok-seam.seam = grind arith in
+    no_room _ _ _ c.requires.front_formed c.requires.back_formed few _ (met_by _ _ _ (sym c.seam_between.ensures ∙ s)) (omega arith)
 
-pub write-requires : goal.write-requires
-write-requires c =
-    let s = c in
-    let v = s.args in
-    counts v.front v.back v.a.now v.b.now v.out.now s.requires (sym c.within.ensures ∙ c.if-not-within.false) _ c.seam_between-seam.ensures
+pub write-requires-clause-counted : goal.write-requires-clause-counted
+write-requires-clause-counted c =
+    let v = c.args in
+    let few = times_few c.layout.ensures c.is_none.ensures (λ i. v.front.placed.time_count i + v.back.placed.time_count i) c.if-is_none.false in
+    let s : c.seam_between.result ≡ Some c.in_ok-seam.seam = grind arith in
+    counts _ _ v.out.now c.requires.front_formed c.requires.back_formed few _ (met_by _ _ _ (sym c.seam_between.ensures ∙ s))
 
 pub returns : goal.returns
 returns c =
-    let s = c in
-    let v = s.args in
-    melded v.front v.back v.a.now v.b.now v.out.now s.requires (sym c.within.ensures ∙ c.if-not-within.false) _ c.seam_between-seam.ensures c.if-not-follows.false c.if-out-room.false c.write.ensures
+    let v = c.args in
+    let few = times_few c.layout.ensures c.is_none.ensures (λ i. v.front.placed.time_count i + v.back.placed.time_count i) c.if-is_none.false in
+    let s : c.seam_between.result ≡ Some c.in_ok-seam.seam = grind arith in
+    melded _ _ _ c.requires.front_formed c.requires.back_formed few _ (met_by _ _ _ (sym c.seam_between.ensures ∙ s)) (omega arith) c.write.ensures

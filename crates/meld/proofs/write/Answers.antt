@@ -1,19 +1,44 @@
--- `meld::write` meets its contract: the places, then the two halves.
-use Rattle.std.proofs.Common.{arith}
-use Rattle.meld.proofs.Laid.{halves}
+-- `meld::write` meets its contract: the table, then seven bodies in their places.
+use Rattle.std.proofs.Common.{◌≡◌, ℕ, ◌-◌, take, refl, ap, ◌∙◌}
+use Rattle.chunk.specs.declared.Contents.{Contents}
+use Rattle.meld.specs.Laid.{laid_at, places_of}
+use Rattle.meld.proofs.Place.{next_body}
 use Rattle.meld.proofs.write.Goals as goal
 
-pub overflow_add-front-2 : goal.overflow_add-front-2
-overflow_add-front-2 c = omega (arith, c.requires.diffs_few)
-
-pub write_upper-requires : goal.write_upper-requires
-write_upper-requires c = c.requires
-
-pub write_lower-requires : goal.write_lower-requires
-write_lower-requires c = c.requires
-
 pub returns : goal.returns
+unfolding laid_at
 returns c =
-    let u = c in
-    let v = u.args in
-    halves v.front v.back v.seam v.a.now v.b.now v.out.now u.layout-to.ensures u.write_upper.ensures c.write_lower.ensures
+    let v = c.args in
+    let a = v.front.words.now in
+    let b = v.back.words.now in
+    let p = v.front.placed in
+    let q = v.back.placed in
+    let to : c.places-to.result ≡ places_of v.seam a b = c.places-to.ensures ∙ rw (p.key_count, p.val_count, p.time_count, p.diff_count, q.key_count, q.val_count, q.time_count, q.diff_count) in
+    let keys = ap (λ (n : ℕ). n - v.seam.keys) p.key_count in
+    let vals = ap (λ (n : ℕ). n - v.seam.vals) p.val_count in
+    next_body _ refl
+    (next_body _ p.diff_count
+    (next_body _ refl
+    (next_body _ p.time_count
+    (next_body _ refl
+    (next_body _ vals
+    (next_body _ refl c.write_table.ensures (λ i. take (keys i) (c.keys.ensures i)) c.keys-2.ensures c.write_body.ensures)
+    (λ i. take (keys i) (c.val_ends.ensures i))
+    c.val_ends-2.ensures
+    c.write_body-2.ensures)
+    (λ i. take (vals i) (c.vals.ensures i))
+    c.vals-2.ensures
+    c.write_body-3.ensures)
+    (λ i. take (vals i) (c.time_ends.ensures i))
+    c.time_ends-2.ensures
+    c.write_body-4.ensures)
+    c.times.ensures
+    c.times-2.ensures
+    c.write_body-5.ensures)
+    c.diff_ends.ensures
+    c.diff_ends-2.ensures
+    c.write_body-6.ensures)
+    c.diffs.ensures
+    c.diffs-2.ensures
+    c.write_body-7.ensures
+    ∙ ap (λ (k : Contents). laid_at k v.seam a b v.out.now) to

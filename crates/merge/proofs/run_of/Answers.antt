@@ -1,21 +1,16 @@
-use Rattle.reports.proofs.Running.{run_this, run_that, run_both, run_short, run_other, run_past}
-use Rattle.std.proofs.Common.{[]}
+-- `merge::run_of` meets its contract, by the kind.
+use Rattle.std.proofs.Common.{◌<◌, arith}
+use Rattle.reports.proofs.Running.{run_this, run_that, run_other}
 use Rattle.merge.proofs.run_of.Goals as goal
 
-pub returns-then-kind-eq-THIS : goal.returns-then-kind-eq-THIS
-returns-then-kind-eq-THIS c = run_this _ _ _ _ _ _ c.if-kind-eq-THIS.true c.part_of.ensures
+pub returns-in-0 : goal.returns-in-0
+returns-in-0 c = run_this _ _ _ _ _ _ c.in-0.is c.part_of.ensures
 
-pub returns-then-kind-eq-THAT : goal.returns-then-kind-eq-THAT
-returns-then-kind-eq-THAT c = run_that _ _ _ _ _ _ c.if-kind-eq-THAT.true c.part_of-then-kind-eq-THAT.ensures
+pub returns-in-1 : goal.returns-in-1
+returns-in-1 c = run_that _ _ _ _ _ _ c.in-1.is c.part_of-in-1.ensures
 
-pub returns-then-kind-ne-BOTH : goal.returns-then-kind-ne-BOTH
-returns-then-kind-ne-BOTH c = run_other _ _ _ _ _ c.if-kind-eq-THIS.false c.if-kind-eq-THAT.false c.if-kind-ne-BOTH.true
+pub returns-in-2 : goal.returns-in-2
+returns-in-2 c = rw c.in-2.is c.shared_of.ensures
 
-pub returns-then-second-high : goal.returns-then-second-high
-returns-then-second-high c = run_short _ _ _ _ _ [] c.if-kind-ne-BOTH.false c.if-second-high.true
-
-pub returns-then-first-low : goal.returns-then-first-low
-returns-then-first-low c = run_past _ _ _ _ _ c.if-kind-ne-BOTH.false c.if-second-high.false c.if-first-low.true
-
-pub returns : goal.returns
-returns c = run_both _ _ _ _ _ _ c.if-kind-ne-BOTH.false c.if-second-high.false c.part_of-2.ensures
+pub returns-in_default : goal.returns-in_default
+returns-in_default c = let h : 2 < c.args.kind = omega arith in run_other _ _ _ _ _ (λ e. absurd (omega arith)) (λ e. absurd (omega arith)) (λ e. absurd (omega arith))

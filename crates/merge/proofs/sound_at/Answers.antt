@@ -1,16 +1,14 @@
 -- `merge::sound_at` meets its contract: by the place of the cursor's time.
+use Rattle.std.proofs.Common.{◌∙◌, le-ltb}
 use Rattle.reports.proofs.Moving.{reading}
-use Rattle.merge.proofs.Sounding.{no_time, no_list, its_list}
+use Rattle.merge.proofs.Sounding.{no_time, its_place}
 use Rattle.merge.proofs.sound_at.Goals as goal
 
-pub returns-then-found-t : goal.returns-then-found-t
-returns-then-found-t c = no_time _ _ (rw (reading _ _ c.requires).counted c.if-found-t.true)
+pub place_at-requires : goal.place_at-requires
+place_at-requires c = record { read = c.requires; t_in_bounds = rw (reading _ _ c.requires).counted c.if-cursor-chunk.true }
 
-pub place_at-place-requires : goal.place_at-place-requires
-place_at-place-requires c = record { read = c.requires; t_in_bounds = rw (reading _ _ c.requires).counted c.if-found-t.false }
+pub returns-then-cursor-chunk : goal.returns-then-cursor-chunk
+returns-then-cursor-chunk c = c.eq.ensures ∙ its_place _ _ c.place_at.result (rw (reading _ _ c.requires).counted c.if-cursor-chunk.true) c.place_at.ensures
 
-pub returns-then-place-cursor : goal.returns-then-place-cursor
-returns-then-place-cursor c = no_list _ _ c.place_at-place.result (rw (reading _ _ c.requires).counted c.if-found-t.false) c.place_at-place.ensures c.if-place-cursor.true
-
-pub returns : goal.returns
-returns c = its_list _ _ c.place_at-place.result (rw (reading _ _ c.requires).counted c.if-found-t.false) c.place_at-place.ensures c.if-place-cursor.false
+pub returns-else-cursor-chunk : goal.returns-else-cursor-chunk
+returns-else-cursor-chunk c = le-ltb _ _ c.if-cursor-chunk.false ∙ no_time _ _ (rw (reading _ _ c.requires).counted c.if-cursor-chunk.false)

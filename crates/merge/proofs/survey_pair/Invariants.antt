@@ -1,9 +1,9 @@
-use Rattle.std.proofs.Common.{◌+◌, ◌-◌}
+use Rattle.std.proofs.Common.{◌+◌, ◌-◌, length}
 use Rattle.merge.proofs.Along.{Along}
 use Rattle.merge.proofs.survey_pair.Given as goal
 
-abbrev pub invariant-loop-lower0 : goal.invariant-loop-lower0
-invariant-loop-lower0 l = Along l.items0 l.from0 l.upper0 l.items1 l.from1 l.upper1 l.initial.scratch l.from l.scratch l.lower0 l.lower1 l.at
+abbrev pub invariant-loop-spot : goal.invariant-loop-spot
+invariant-loop-spot l = Along l.items0 l.fn.start.lower0 (length l.items0) l.items1 l.fn.start.lower1 (length l.items1) l.initial.scratch l.from l.scratch l.spot.lower0 l.spot.lower1 l.at
 
-abbrev pub decreases-loop-lower0 : goal.decreases-loop-lower0
-decreases-loop-lower0 l = l.upper0 - l.lower0 + (l.upper1 - l.lower1)
+abbrev pub decreases-loop-spot : goal.decreases-loop-spot
+decreases-loop-spot l = length l.items0 - l.spot.lower0 + (length l.items1 - l.spot.lower1)

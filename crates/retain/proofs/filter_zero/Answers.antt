@@ -6,52 +6,49 @@ use mathlib.Core.List.{List, []}
 use native.Mathlib.Omega.{arith}
 use lib.ListN.{length}
 use borrow.Author.Tests.{lt-ltb, le-ltb}
+use Rattle.std.proofs.lemmas.Result.{err_from_is_err_and}
 use Rattle.chunk.specs.Entry.{Entry, keep, stands}
 use Rattle.chunk.specs.Bodies.{chunk_of}
 use Rattle.chunk.specs.Words.{well_formed, entries, size, over}
 use Rattle.chunk.specs.Refusal.{first, written}
 use Rattle.retain.specs.Cut.{filter_number, filter_out}
-use Rattle.laws.proofs.Checked.{passed, failed}
 use Rattle.retain.proofs.Picks.{retained_all}
 use Rattle.retain.proofs.filter_zero.Goals as goal
 
--- the number, and what the output holds
-Answer : ℕ → List ℕ → List ℕ → List ℕ → Type 0
-Answer r after w out = (r ≡ filter_number w out) × (after ≡ filter_out w out)
-
-malformed : (w out : List ℕ) → well_formed w ≡ false → Answer 5 out w out
-unfolding Answer filter_number filter_out first written
+malformed : (w out : List ℕ) → well_formed w ≡ false → (5 ≡ filter_number w out) × (out ≡ filter_out w out)
+unfolding filter_number filter_out first written
 malformed w out h = (simp h, simp h)
 
-short : (w out : List ℕ) → well_formed w ≡ true → length out < size w → Answer 13 out w out
-unfolding Answer filter_number filter_out first written
+short : (w out : List ℕ) → well_formed w ≡ true → length out < size w → (13 ≡ filter_number w out) × (out ≡ filter_out w out)
+unfolding filter_number filter_out first written
 short w out h k = let q = lt-ltb (length out) (size w) k in (simp (h, q), simp (h, q))
 
-accepted : (w out after : List ℕ) → well_formed w ≡ true → size w ≤ length out → after ≡ over (chunk_of (keep stands (entries w))) out → Answer 0 after w out
-unfolding Answer filter_number filter_out first written
-accepted w out after h k e = let q = le-ltb (length out) (size w) k in (simp (h, q), e ∙ simp (h, q))
+accepted : (w out : List ℕ) → well_formed w ≡ true → size w ≤ length out → (0 ≡ filter_number w out) × (over (chunk_of (keep stands (entries w))) out ≡ filter_out w out)
+unfolding filter_number filter_out first written
+accepted w out h k = let q = le-ltb (length out) (size w) k in (simp (h, q), simp (h, q))
 
-pub returns-then-number-ne0 : goal.returns-then-number-ne0
-unfolding Answer
-returns-then-number-ne0 c = let a = c.args in malformed a.words.now a.out.now (failed _ a.words.now c.check-checked.ensures c.if-number-ne0.true).formed
+pub returns-in_err-chunk : goal.returns-in_err-chunk
+returns-in_err-chunk c =
+    let e = c.in_err-chunk.ensures in
+    let p = err_from_is_err_and c.from_residual.result c.from_residual.ensures.1 in
+    let m = malformed c.args.words.now c.args.out.now e.1 in
+    rw (p.1, p.2, e.0) (record { number = m.0; written = m.1 })
 
-pub returns-then-out-size : goal.returns-then-out-size
-unfolding Answer
-returns-then-out-size c =
-    let a = c.args in
-    let p = passed _ a.words.now c.check-checked.ensures c.if-number-ne0.false in
-    short a.words.now a.out.now p.formed (omega (arith, p.spread.sized))
+pub returns-then-out-chunk : goal.returns-then-out-chunk
+returns-then-out-chunk c =
+    let e = c.in_ok-chunk.ensures in
+    let m = short c.args.words.now c.args.out.now e.1 (omega (arith, c.if-out-chunk.true, c.in_ok-chunk.chunk.placed.sized, ap size e.0)) in
+    record { number = m.0; written = m.1 }
 
 pub retain_standing-requires : goal.retain_standing-requires
-retain_standing-requires c =
-    let a = c.args in
-    let p = passed _ a.words.now c.check-checked.ensures c.if-number-ne0.false in
-    (p.formed, (p.spread, omega (arith, p.spread.sized)))
+retain_standing-requires c = let e = c.in_ok-chunk.ensures in (ap well_formed e.0 ∙ e.1, omega (arith, c.if-out-chunk.false, c.in_ok-chunk.chunk.placed.sized))
 
 pub returns : goal.returns
-unfolding Answer
 returns c =
-    let a = c.args in
-    let p = passed _ a.words.now c.check-checked.ensures c.if-number-ne0.false in
-    accepted a.words.now a.out.now _ p.formed (omega (arith, p.spread.sized))
-    (c.retain_standing.ensures ∙ ap (λ (es : List Entry). over (chunk_of es) a.out.now) (retained_all a.words.now p.formed []))
+    let e = c.in_ok-chunk.ensures in
+    let w = c.args.words.now in
+    let m = accepted w c.args.out.now e.1 (omega (arith, c.if-out-chunk.false, c.in_ok-chunk.chunk.placed.sized, ap size e.0)) in
+    record {
+      number = m.0;
+      written = (rw e.0 at c.retain_standing.ensures) ∙ ap (λ (es : List Entry). over (chunk_of es) c.args.out.now) (retained_all w e.1 []) ∙ m.1;
+    }

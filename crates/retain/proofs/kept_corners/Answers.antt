@@ -1,9 +1,10 @@
 -- `retain::kept_corners` meets its contract, by either way.
-use Rattle.retain.proofs.Running.{kept_parts}
+use mathlib.Core.Path.{sym}
+use Rattle.retain.proofs.Running.{kept_some}
 use Rattle.retain.proofs.kept_corners.Goals as goal
 
-pub returns-then-done : goal.returns-then-done
-returns-then-done c = c.climb_corners-quick.ensures c.if-done.true
+pub returns-then-is_some : goal.returns-then-is_some
+returns-then-is_some c = c.climb_corners-quick.ensures (sym c.if-is_some.ensures)
 
 pub returns : goal.returns
-returns c = kept_parts _ _ _ c.scan_corners-least.ensures c.count_open-number.ensures
+returns c = kept_some _ _ _ c.in_ok-frontier.ensures c.count_open-number.ensures

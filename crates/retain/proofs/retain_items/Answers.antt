@@ -1,106 +1,30 @@
--- `retain::retain_items` meets its contract: the parts cut out are the bodies, and what is written of them is the chunk of what stays.
-use native.Mathlib.Omega.{arith}
-use Rattle.retain.proofs.Retained.{cut_bodies, cut_left, cut_over}
-use Rattle.chunk.proofs.Lending.{Lending, lending}
-use Rattle.retain.proofs.retain_items.Lts as lts
-use Rattle.retain.proofs.retain_items.Reads as reads
-use Rattle.retain.proofs.retain_items.Tie as tie
+-- `retain::retain_items` meets its contract: the bodies are the chunk's, and what is written of them is the chunk of what stays.
+use mathlib.Core.Path.{◌∙◌, ap}
+use mathlib.Core.Bool.{true}
+use mathlib.Core.List.{List}
+use Prim.Native.Nat.{ℕ}
+use Rattle.chunk.specs.Words.{over}
+use Rattle.retain.specs.Keep.{keeps, time_kept}
+use Rattle.retain.specs.Layers.{layers_out}
+use Rattle.retain.proofs.Retained.{its_bodies, left_in, written_of}
 use Rattle.retain.proofs.retain_items.Goals as goal
 
-lent : (a : lts.Start tie.the-claims reads.Pre reads.Post tie.handed_clauses) → Lending a.args.words.now a.args.found
-lent a = lending _ _ a.requires.words_value.1 (omega (arith, a.well_formed.0))
+pub invariant_of-source : goal.invariant_of-source
+invariant_of-source c =
+    record { together = rw (c.keys.ensures, c.val_ends.ensures, c.vals.ensures, c.time_ends.ensures, c.times.ensures, c.diff_ends.ensures, c.diffs.ensures) (its_bodies c.args.chunk.words.now c.requires.formed (λ i. true)) }
 
-pub offset_bounds-words-keys_at : goal.offset_bounds-words-keys_at
-offset_bounds-words-keys_at c = (lent c.before.before.before.before).its_keys.bytes
+pub write_bodies-requires-clause-left : goal.write_bodies-requires-clause-left
+write_bodies-requires-clause-left c =
+    let q = c.requires in
+    rw (c.keys.ensures, c.val_ends.ensures, c.vals.ensures, c.time_ends.ensures, c.times.ensures, c.diff_ends.ensures) ((left_in c.args.chunk.words.now q.formed (keeps c.args.keep) _ _ _ _ q.counted.1 q.counted.0 q.room).0)
 
-pub slice_bounds-write_bodies-count : goal.slice_bounds-write_bodies-count
-slice_bounds-write_bodies-count c = (lent c.before.before.before.before).its_keys.ordered
-
-pub slice_bounds-write_bodies-start : goal.slice_bounds-write_bodies-start
-slice_bounds-write_bodies-start c = (lent c.before.before.before.before).its_keys.ordered
-
-pub slice_bounds-write_bodies-end : goal.slice_bounds-write_bodies-end
-slice_bounds-write_bodies-end c = (lent c.before.before.before.before).its_keys.within
-
-pub offset_bounds-words-val_ends_at : goal.offset_bounds-words-val_ends_at
-offset_bounds-words-val_ends_at c = (lent c.before.before.before.before.before).its_val_ends.bytes
-
-pub slice_bounds-write_bodies-count-2 : goal.slice_bounds-write_bodies-count-2
-slice_bounds-write_bodies-count-2 c = (lent c.before.before.before.before.before).its_val_ends.ordered
-
-pub slice_bounds-write_bodies-start-2 : goal.slice_bounds-write_bodies-start-2
-slice_bounds-write_bodies-start-2 c = (lent c.before.before.before.before.before).its_val_ends.ordered
-
-pub slice_bounds-write_bodies-end-2 : goal.slice_bounds-write_bodies-end-2
-slice_bounds-write_bodies-end-2 c = (lent c.before.before.before.before.before).its_val_ends.within
-
-pub offset_bounds-words-vals_at : goal.offset_bounds-words-vals_at
-offset_bounds-words-vals_at c = (lent c.before.before.before.before.before.before).its_vals.bytes
-
-pub slice_bounds-write_bodies-count-3 : goal.slice_bounds-write_bodies-count-3
-slice_bounds-write_bodies-count-3 c = (lent c.before.before.before.before.before.before).its_vals.ordered
-
-pub slice_bounds-write_bodies-start-3 : goal.slice_bounds-write_bodies-start-3
-slice_bounds-write_bodies-start-3 c = (lent c.before.before.before.before.before.before).its_vals.ordered
-
-pub slice_bounds-write_bodies-end-3 : goal.slice_bounds-write_bodies-end-3
-slice_bounds-write_bodies-end-3 c = (lent c.before.before.before.before.before.before).its_vals.within
-
-pub offset_bounds-words-time_ends_at : goal.offset_bounds-words-time_ends_at
-offset_bounds-words-time_ends_at c = (lent c.before.before.before.before.before.before.before).its_time_ends.bytes
-
-pub slice_bounds-write_bodies-count-4 : goal.slice_bounds-write_bodies-count-4
-slice_bounds-write_bodies-count-4 c = (lent c.before.before.before.before.before.before.before).its_time_ends.ordered
-
-pub slice_bounds-write_bodies-start-4 : goal.slice_bounds-write_bodies-start-4
-slice_bounds-write_bodies-start-4 c = (lent c.before.before.before.before.before.before.before).its_time_ends.ordered
-
-pub slice_bounds-write_bodies-end-4 : goal.slice_bounds-write_bodies-end-4
-slice_bounds-write_bodies-end-4 c = (lent c.before.before.before.before.before.before.before).its_time_ends.within
-
-pub offset_bounds-words-times_at : goal.offset_bounds-words-times_at
-offset_bounds-words-times_at c = (lent c.before.before.before.before.before.before.before.before).its_times.bytes
-
-pub slice_bounds-write_bodies-count-5 : goal.slice_bounds-write_bodies-count-5
-slice_bounds-write_bodies-count-5 c = (lent c.before.before.before.before.before.before.before.before).its_times.ordered
-
-pub slice_bounds-write_bodies-start-5 : goal.slice_bounds-write_bodies-start-5
-slice_bounds-write_bodies-start-5 c = (lent c.before.before.before.before.before.before.before.before).its_times.ordered
-
-pub slice_bounds-write_bodies-end-5 : goal.slice_bounds-write_bodies-end-5
-slice_bounds-write_bodies-end-5 c = (lent c.before.before.before.before.before.before.before.before).its_times.within
-
-pub offset_bounds-words-diff_ends_at : goal.offset_bounds-words-diff_ends_at
-offset_bounds-words-diff_ends_at c = (lent c.before.before.before.before.before.before.before.before.before).its_diff_ends.bytes
-
-pub slice_bounds-write_bodies-count-6 : goal.slice_bounds-write_bodies-count-6
-slice_bounds-write_bodies-count-6 c = (lent c.before.before.before.before.before.before.before.before.before).its_diff_ends.ordered
-
-pub slice_bounds-write_bodies-start-6 : goal.slice_bounds-write_bodies-start-6
-slice_bounds-write_bodies-start-6 c = (lent c.before.before.before.before.before.before.before.before.before).its_diff_ends.ordered
-
-pub slice_bounds-write_bodies-end-6 : goal.slice_bounds-write_bodies-end-6
-slice_bounds-write_bodies-end-6 c = (lent c.before.before.before.before.before.before.before.before.before).its_diff_ends.within
-
-pub offset_bounds-words-diffs_at : goal.offset_bounds-words-diffs_at
-offset_bounds-words-diffs_at c = (lent c.before.before.before.before.before.before.before.before.before.before).its_diffs.bytes
-
-pub slice_bounds-write_bodies-count-7 : goal.slice_bounds-write_bodies-count-7
-slice_bounds-write_bodies-count-7 c = (lent c.before.before.before.before.before.before.before.before.before.before).its_diffs.ordered
-
-pub slice_bounds-write_bodies-start-7 : goal.slice_bounds-write_bodies-start-7
-slice_bounds-write_bodies-start-7 c = (lent c.before.before.before.before.before.before.before.before.before.before).its_diffs.ordered
-
-pub slice_bounds-write_bodies-end-7 : goal.slice_bounds-write_bodies-end-7
-slice_bounds-write_bodies-end-7 c = (lent c.before.before.before.before.before.before.before.before.before.before).its_diffs.within
-
-pub write_bodies-requires : goal.write_bodies-requires
-write_bodies-requires c = let a = c in let q = cut_left a.args.words.now a.requires.words_value.0 a.args.found a.requires.words_value.1 a.args.keep a.args.corners.now _ _ _ _ a.requires.nt_value.1 a.requires.nt_value.0 a.requires.corners_value.1 in record { corners_value = a.requires.corners_value.0; bodies = cut_bodies a.args.words.now a.requires.words_value.0 a.args.found a.requires.words_value.1; left = q.0; nt_in_bounds = q.1 }
-
-pub shape_of-out : goal.shape_of-out
-shape_of-out c = c.write_bodies.auto.out
+pub write_bodies-requires-clause-room : goal.write_bodies-requires-clause-room
+write_bodies-requires-clause-room c = let q = c.requires in (left_in c.args.chunk.words.now q.formed (keeps c.args.keep) _ _ _ _ q.counted.1 q.counted.0 q.room).1
 
 pub returns : goal.returns
 returns c =
-    let a = c in
-    cut_over a.args.words.now a.requires.words_value.0 a.args.found a.requires.words_value.1 a.args.keep a.args.corners.now a.args.nk a.args.nv a.args.nt a.args.out.now _ a.requires.nt_value.1 a.requires.nt_value.0 c.write_bodies.ensures
+    let a = c.args in
+    let q = c.requires in
+    c.write_bodies.ensures
+    ∙ (λ j. over (layers_out (time_kept (keeps a.keep) (c.times.ensures j) (c.diff_ends.ensures j)) (c.keys.ensures j) (c.val_ends.ensures j) (c.vals.ensures j) (c.time_ends.ensures j) (c.times.ensures j) (c.diff_ends.ensures j) (c.diffs.ensures j) a.lists.keys a.lists.vals a.nt) a.out.now)
+    ∙ ap (λ (x : List ℕ). over x c.args.out.now) (written_of c.args.chunk.words.now q.formed (keeps c.args.keep) _ _ _ q.counted.1 q.counted.0)

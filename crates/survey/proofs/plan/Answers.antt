@@ -1,26 +1,38 @@
 -- `survey::plan` meets its contract: the refusals in document 01's order, and the number of reports.
-use mathlib.Core.Path.{sym, ◌∙◌, ap}
-use Prim.Native.Nat.{ℕ}
-use mathlib.Core.List.{List}
+use mathlib.Core.Path.{◌≡◌, ap}
 use native.Mathlib.Omega.{arith}
 use lib.ListN.{length}
-use borrow.Author.Rules.{rules}
-use Rattle.reports.specs.Survey.{reports}
-use Rattle.survey.specs.Reports.{keys_of}
-use Rattle.survey.proofs.Plans.{plan_first, plan_second, plan_short, plan_room}
+use Rattle.std.proofs.lemmas.Result.{err_from_is_err_and}
+use Rattle.chunk.specs.Words.{key_body}
+use Rattle.survey.proofs.Plans.{taken_count, plan_first, plan_second, plan_short, plan_room}
 use Rattle.survey.proofs.plan.Goals as goal
 
-pub returns-then-first-ne0 : goal.returns-then-first-ne0
-returns-then-first-ne0 c = let s = c in let a = s.args.a.now in let b = s.args.b.now in let lent = s.args.lent in plan_first a b lent _ c.input_number-first.ensures c.if-first-ne0.true
+pub returns-in_err-first : goal.returns-in_err-first
+returns-in_err-first c =
+    let p = err_from_is_err_and c.from_residual.result c.from_residual.ensures.1 in
+    rw (p.1, p.2) (plan_first _ _ _ _ c.in_err-first.ensures)
 
-pub returns-then-second-ne0 : goal.returns-then-second-ne0
-returns-then-second-ne0 c = let s = c in let a = s.args.a.now in let b = s.args.b.now in let lent = s.args.lent in plan_second a b lent (sym c.input_number-first.ensures ∙ c.if-first-ne0.false) _ c.input_number-second.ensures c.if-second-ne0.true
-
-pub overflow_add-xs : goal.overflow_add-xs
-overflow_add-xs c = let p = c.keys-xs in let q = c.keys-ys in search rules
+pub returns-in_err-second : goal.returns-in_err-second
+returns-in_err-second c =
+    let e = c.in_ok-first.ensures in
+    let p = err_from_is_err_and c.from_residual-in_err-second.result c.from_residual-in_err-second.ensures.1 in
+    rw (p.1, p.2) (plan_second _ _ _ (record { well = e.1; is_settled = e.2; filled = e.3 }) _ c.in_err-second.ensures)
 
 pub returns-then-lent-xs : goal.returns-then-lent-xs
-returns-then-lent-xs c = let s = c in let a = s.args.a.now in let b = s.args.b.now in let lent = s.args.lent in plan_short a b lent (sym c.input_number-first.ensures ∙ c.if-first-ne0.false) (sym c.input_number-second.ensures ∙ c.if-second-ne0.false) (omega (arith, c.if-lent-xs.true, ap length c.keys-xs.ensures, ap length c.keys-ys.ensures))
+returns-then-lent-xs c =
+    let e = c.in_ok-first.ensures in
+    let f = c.in_ok-second.ensures in
+    let x : c.keys-xs.result.now ≡ key_body c.args.a.now = rw e.0 at c.keys-xs.ensures in
+    let y : c.keys-ys.result.now ≡ key_body c.args.b.now = rw f.0 at c.keys-ys.ensures in
+    plan_short _ _ _ (record { well = e.1; is_settled = e.2; filled = e.3 }) (record { well = f.1; is_settled = f.2; filled = f.3 })
+    (omega (arith, c.if-lent-xs.true, ap length x, ap length y, taken_count c.args.a.now e.1, taken_count c.args.b.now f.1))
 
 pub returns : goal.returns
-returns c = let s = c in let a = s.args.a.now in let b = s.args.b.now in let lent = s.args.lent in plan_room a b lent (sym c.input_number-first.ensures ∙ c.if-first-ne0.false) (sym c.input_number-second.ensures ∙ c.if-second-ne0.false) (omega (arith, c.if-lent-xs.false, ap length c.keys-xs.ensures, ap length c.keys-ys.ensures)) _ (c.count_reports-count.ensures ∙ ap (λ (l : List ℕ). length (reports l c.keys-ys.result.now)) c.keys-xs.ensures ∙ ap (λ (l : List ℕ). length (reports (keys_of a) l)) c.keys-ys.ensures)
+returns c =
+    let e = c.in_ok-first.ensures in
+    let f = c.in_ok-second.ensures in
+    let x : c.keys-xs.result.now ≡ key_body c.args.a.now = rw e.0 at c.keys-xs.ensures in
+    let y : c.keys-ys.result.now ≡ key_body c.args.b.now = rw f.0 at c.keys-ys.ensures in
+    rw (c.count_reports.ensures, x, y)
+    (plan_room _ _ _ (record { well = e.1; is_settled = e.2; filled = e.3 }) (record { well = f.1; is_settled = f.2; filled = f.3 })
+    (omega (arith, c.if-lent-xs.false, ap length x, ap length y, taken_count c.args.a.now e.1, taken_count c.args.b.now f.1)))

@@ -1,54 +1,44 @@
--- `survey::survey` meets its contract: `plan` says the number and how many reports there are, and each turn stores what `next_report` says.
-use Rattle.std.proofs.Common.{ℕ, ◌+◌, ◌-◌, ◌≡◌, ◌≤◌, List, set, sym, ap, ◌∙◌, arith}
-use Rattle.survey.specs.declared.Next.{Next}
-use Rattle.survey.specs.declared.Surveyed.{Surveyed}
-use Rattle.survey.specs.Reports.{next_of, surveyed_of}
-use Rattle.survey.proofs.Fills.{fill_from, outset, fill_end, fill_step, count_room, fill_all}
+-- `survey::survey` meets its contract: `plan` says how many reports there are, and each turn stores the next of them.
+use mathlib.Core.Path.{◌≡◌, sym, ◌∙◌, ap}
+use mathlib.Core.List.{List, ◌++◌}
+use native.Mathlib.Omega.{arith}
+use lib.ListN.{length, drop, length-take}
+use Rattle.std.proofs.lemmas.Result.{err_from_is_err_and}
+use Rattle.reports.specs.Survey.{reports}
+use Rattle.survey.specs.declared.Report.{Report}
+use Rattle.survey.proofs.Fills.{fill_start, fill_next, fill_more, fill_end, told, untouched}
 use Rattle.survey.proofs.survey.Goals as goal
 
--- the count that was said is what the records have room for
-roomy : (a b : List ℕ) (n : ℕ) (said : Surveyed) → said ≡ surveyed_of a b n → said.count ≤ n
-roomy a b n said e = rw e (count_room a b n)
+pub returns-in_err-count : goal.returns-in_err-count
+returns-in_err-count c =
+    let p = err_from_is_err_and c.from_residual.result c.from_residual.ensures.1 in
+    rw (p.1, p.2) (c.in_err-count.ensures, untouched _ _ _ _ c.in_err-count.ensures)
 
-pub loop-at-init : goal.loop-at-init
-loop-at-init c =
-    let k : c.plan-said.result.count - 0 ≡ c.plan-said.result.count = omega arith in
-    record {
-      within = omega arith;
-      fills = ap (λ (n : ℕ). fill_from c.args.a.now c.args.b.now n outset 0 c.args.reports.now) k;
-    }
+pub slice_bounds-report-items-end : goal.slice_bounds-report-items-end
+slice_bounds-report-items-end c = (told _ _ _ _ c.in_ok-count.ensures).room
 
-pub offset_bounds-reports-at : goal.offset_bounds-reports-at
-offset_bounds-reports-at c = let r = roomy _ _ _ _ c.plan-said.ensures in omega arith
+pub slice_bounds-report-items-end-2 : goal.slice_bounds-report-items-end-2
+slice_bounds-report-items-end-2 c =
+    let t = told _ _ _ _ c.in_ok-count.ensures in
+    omega (arith, t.room, length-take c.in_ok-count.count c.args.reports.now)
 
-pub bounds-reports-at : goal.bounds-reports-at
-bounds-reports-at c = let r = roomy _ _ _ _ c.plan-said.ensures in omega arith
+pub loop-report-init : goal.loop-report-init
+loop-report-init c =
+    let t = told _ _ _ _ c.in_ok-count.ensures in
+    let e : length (reports c.keys-xs.result.now c.keys-ys.result.now) ≡ c.in_ok-count.count = rw (c.keys-xs.ensures, c.keys-ys.ensures) t.counted_keys in
+    fill_start _ _ _ (omega (arith, e, t.room, length-take c.in_ok-count.count c.args.reports.now))
 
-pub loop-at-preserved : goal.loop-at-preserved
-loop-at-preserved c =
-    let a = c.args.a.now in
-    let b = c.args.b.now in
-    let l = c.loop-at in
-    let count = c.plan-said.result.count in
-    let k : count - (l.at + 1) ≡ (count - l.at) - 1 = omega arith in
-    record {
-      within = omega arith;
-      fills = ap (λ (y : Next). fill_from a b (count - (l.at + 1)) y.spot (l.at + 1) (set l.reports l.at y.report)) c.next_report-next.ensures
-          ∙ ap (λ (n : ℕ). fill_from a b n (next_of a b l.spot).spot (l.at + 1) (set l.reports l.at (next_of a b l.spot).report)) k
-          ∙ sym (fill_step a b (count - l.at) l.spot l.at l.reports (omega arith))
-          ∙ l.invariant.fills;
-    }
+pub unwrap-next-requires : goal.unwrap-next-requires
+unwrap-next-requires c = rw c.next_in.ensures (fill_next _ _ _ _ _ c.loop-report.invariant (omega arith))
+
+pub loop-report-preserved : goal.loop-report-preserved
+loop-report-preserved c = fill_more _ _ _ _ _ c.loop-report.invariant _ (sym c.unwrap-next.ensures ∙ c.next_in.ensures) (omega arith)
 
 pub returns : goal.returns
 returns c =
-    let a = c.args.a.now in
-    let b = c.args.b.now in
-    let l = c.loop-at in
-    let xs = c.args.reports.now in
-    let over : c.plan-said.result.count - l.at ≡ 0 = omega arith in (
-      c.plan-said.ensures,
-      sym (fill_end a b (c.plan-said.result.count - l.at) l.spot l.at l.reports over)
-          ∙ l.invariant.fills
-          ∙ ap (λ (s : Surveyed). fill_from a b s.count outset 0 xs) c.plan-said.ensures
-          ∙ fill_all a b xs,
+    let t = told _ _ _ _ c.in_ok-count.ensures in
+    let rest : List Report = drop c.in_ok-count.count c.args.reports.now in (
+      c.in_ok-count.ensures,
+      ap (λ (l : List Report). l ++ rest) (fill_end _ _ _ _ _ c.loop-report.invariant (omega arith))
+          ∙ rw (c.keys-xs.ensures, c.keys-ys.ensures) t.filled,
     )

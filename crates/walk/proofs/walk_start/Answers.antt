@@ -1,31 +1,18 @@
--- `walk::walk_start` meets its contract: the check's refusal, or the first ends where the check's contents say.
-use native.Mathlib.Omega.{arith}
-use Rattle.walk.proofs.Start.{start_places, started_at, started_refused}
+-- `walk::walk_start` meets its contract.
+use Rattle.std.proofs.lemmas.Result.{err_from_is_err_and}
+use Rattle.walk.specs.Answer.{started_of}
 use Rattle.walk.proofs.walk_start.Goals as goal
 
-pub returns-then-number-ne0 : goal.returns-then-number-ne0
-returns-then-number-ne0 c =
-    let k = c.check-checked in
-    started_refused _ k.result k.ensures c.if-number-ne0.true c.at_first.result c.at_first.ensures
-
-pub first-v_end-requires : goal.first-v_end-requires
-first-v_end-requires c =
-    let k = c.check-checked in
-    omega (arith, start_places _ k.result k.ensures c.if-number-ne0.false)
-
-pub first-t_end-requires : goal.first-t_end-requires
-first-t_end-requires c =
-    let k = c.check-checked in
-    omega (arith, start_places _ k.result k.ensures c.if-number-ne0.false)
-
-pub first-d_end-requires : goal.first-d_end-requires
-first-d_end-requires c =
-    let k = c.check-checked in
-    omega (arith, start_places _ k.result k.ensures c.if-number-ne0.false)
+pub returns-in_err-chunk : goal.returns-in_err-chunk
+unfolding started_of
+returns-in_err-chunk c =
+    let e = c.in_err-chunk.ensures in
+    let p = err_from_is_err_and c.from_residual.result c.from_residual.ensures.1 in
+    rw (p.1, p.2) (simp (e.0, e.1))
 
 pub returns : goal.returns
+unfolding started_of
 returns c =
-    let k = c.check-checked in
-    started_at _ k.result k.ensures c.if-number-ne0.false
-    _ _ _ c.first-v_end.ensures c.first-t_end.ensures c.first-d_end.ensures
-    c.at_first-2.result c.at_first-2.ensures
+    let e = c.in_ok-chunk.ensures in
+    let f = c.ends_of-ends.ensures in
+    simp (c.first.ensures, c.first-2.ensures, c.first-3.ensures, f.0, f.1, f.2, e.0, e.1)

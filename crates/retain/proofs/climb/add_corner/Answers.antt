@@ -1,80 +1,33 @@
--- `retain::climb::add_corner` meets its contract: what stands after the shift are the corners with the time among them.
-use Prim.Native.Nat.{ℕ, ◌+◌, ◌-◌, ◌≤◌}
-use mathlib.Core.Path.{◌≡◌, sym, ◌∙◌, ap}
+-- `retain::climb::add_corner` meets its contract: what stands after the move are the corners with the time among them.
+use Prim.Native.Nat.{ℕ, ◌+◌, ◌-◌}
+use mathlib.Core.Path.{◌≡◌, sym, subst}
 use mathlib.Core.List.{List}
-use native.Mathlib.Omega.{arith}
-use lib.ListN.{length, take, drop, set, length-set, length-drop}
-use lib.Seq.{length-take-le}
-use borrow.Rule.Slice.PartMut.{same_len_mid}
-use Rattle.retain.proofs.Spots.{standing-length, joined_full, joined_more, joined_fewer}
+use borrow.Rule.Slice.PartMut.{put_mid}
+use Rattle.retain.specs.Found.{Joined}
+use lib.ListN.{length, take, drop, set, replicate}
+use Rattle.retain.proofs.Spots.{standing-length, joined_full, joined_on, joined_back}
 use Rattle.retain.proofs.climb.add_corner.Goals as goal
 
-room : (l : List ℕ) (count n end t : ℕ) → end ≤ count → count ≤ length l → end - (n + 1) ≤ length (take (count - (n + 1)) (drop (n + 1) (set l n t)))
-room l count n end t h k =
-    let d : length (drop (n + 1) (set l n t)) ≡ length l - (n + 1) = length-drop (n + 1) (set l n t) ∙ ap (λ (x : ℕ). x - (n + 1)) (length-set l n t) in
-    let e : length (take (count - (n + 1)) (drop (n + 1) (set l n t))) ≡ count - (n + 1) = length-take-le (count - (n + 1)) (drop (n + 1) (set l n t)) (omega arith) in
-    omega arith
+pub invariant_of-so_far : goal.invariant_of-so_far
+invariant_of-so_far c = record { in_order = c.requires.0.stairs }
 
-pub slice_bounds-first_at-end-2 : goal.slice_bounds-first_at-end-2
-slice_bounds-first_at-end-2 c = let a = c in sym (standing-length _ _ a.requires.0)
+pub slice_bounds-so_far-end-2 : goal.slice_bounds-so_far-end-2
+slice_bounds-so_far-end-2 c = sym (standing-length _ _ c.requires.0)
 
 pub slice_bounds-run_end-end-2 : goal.slice_bounds-run_end-end-2
-slice_bounds-run_end-end-2 c = let a = c in sym (standing-length _ _ a.requires.0)
+slice_bounds-run_end-end-2 c = sym (standing-length _ _ c.requires.0)
 
-pub offset_bounds-corners-at : goal.offset_bounds-corners-at
-offset_bounds-corners-at c = let a = c in let n = standing-length a.args.corners.now a.args.count a.requires.0 in omega arith
-
-pub bounds-corners-at : goal.bounds-corners-at
-bounds-corners-at c = let a = c in let n = standing-length a.args.corners.now a.args.count a.requires.0 in omega arith
-
-pub offset_bounds-corners-next : goal.offset_bounds-corners-next
-offset_bounds-corners-next c = let a = c in let n = standing-length a.args.corners.now a.args.count a.requires.0 in omega arith
-
-pub slice_bounds-shift_down-count : goal.slice_bounds-shift_down-count
-slice_bounds-shift_down-count c = let a = c in let n = standing-length a.args.corners.now a.args.count a.requires.0 in omega arith
-
-pub slice_bounds-shift_down-start : goal.slice_bounds-shift_down-start
-slice_bounds-shift_down-start c = let a = c in let n = standing-length a.args.corners.now a.args.count a.requires.0 in omega arith
-
-pub slice_bounds-shift_down-end : goal.slice_bounds-shift_down-end
-slice_bounds-shift_down-end c = let a = c in let n = standing-length a.args.corners.now a.args.count a.requires.0 in simp length-set (omega arith)
-
-pub shift_down-requires : goal.shift_down-requires
-shift_down-requires c =
+pub returns-then-top-count : goal.returns-then-top-count
+returns-then-top-count c =
     let a = c in
-    let n = standing-length a.args.corners.now a.args.count a.requires.0 in
-    room a.args.corners.now a.args.count _ _ a.args.t (omega arith) (omega (arith, a.requires.0.size, a.requires.0.within))
+    let e = c.copy_within.ensures.after in
+    let t : ℕ = c.args.count - c.run_end-end.result + c.first_at-at.result + 1 in
+    let P : List ℕ → Type 0 = λ l. (new : List ℕ) → new ≡ replicate (length (take (a.args.count - t) (drop t (set l c.first_at-at.result a.args.t)))) 0
+    → Joined a.args.t (take a.args.count a.args.corners.now) t (put_mid t (a.args.count - t) (set l c.first_at-at.result a.args.t) new) in
+    subst P (sym e) (joined_back _ a.args.count a.requires.0 a.args.t _ _ c.first_at-at.ensures c.run_end-end.ensures a.requires.1 c.if-top-gt-MOST.false c.if-top-count.true) _ (c.fill.ensures.after (λ y q. q))
 
-pub overflow_sub-result : goal.overflow_sub-result
-overflow_sub-result c = let a = c in let n = standing-length a.args.corners.now a.args.count a.requires.0 in omega arith
-
-pub shape_of-corners-then-at-end : goal.shape_of-corners-then-at-end
-shape_of-corners-then-at-end c =
-    let a = c in
-    let n : ℕ = c.first_at-at.result in
-    same_len_mid (n + 1) (a.args.count - (n + 1)) (set a.args.corners.now n a.args.t) c.shift_down.new.part c.shift_down.auto.part
-    ∙ length-set a.args.corners.now n a.args.t
-
-pub returns-then-at-end : goal.returns-then-at-end
-returns-then-at-end c =
-    let a = c in
-    joined_fewer _ a.args.count a.requires.0 a.args.t _ _ c.first_at-at.ensures c.run_end-end.ensures a.requires.1 c.if-at-end.true _ c.shift_down.ensures
+pub returns-else-top-count : goal.returns-else-top-count
+returns-else-top-count c = let a = c in rw c.copy_within.ensures.after (joined_on _ a.args.count a.requires.0 a.args.t _ _ c.first_at-at.ensures c.run_end-end.ensures a.requires.1 c.if-top-gt-MOST.false c.if-top-count.false)
 
 pub returns-then-top-gt-MOST : goal.returns-then-top-gt-MOST
-returns-then-top-gt-MOST c =
-    let a = c in
-    joined_full _ a.args.count a.requires.0 a.args.t _ _ c.first_at-at.ensures c.run_end-end.ensures a.requires.1 c.if-at-end.false c.if-top-gt-MOST.true _
-
-pub offset_bounds-corners-at-2 : goal.offset_bounds-corners-at-2
-offset_bounds-corners-at-2 c = let a = c in let n = standing-length a.args.corners.now a.args.count a.requires.0 in omega arith
-
-pub slice_bounds-shift_up-count : goal.slice_bounds-shift_up-count
-slice_bounds-shift_up-count c = let a = c in let n = standing-length a.args.corners.now a.args.count a.requires.0 in omega arith
-
-pub slice_bounds-shift_up-start : goal.slice_bounds-shift_up-start
-slice_bounds-shift_up-start c = let a = c in let n = standing-length a.args.corners.now a.args.count a.requires.0 in omega arith
-
-pub returns : goal.returns
-returns c =
-    let a = c in
-    joined_more _ a.args.count a.requires.0 a.args.t _ _ c.first_at-at.ensures c.run_end-end.ensures a.requires.1 c.if-at-end.false c.if-top-gt-MOST.false _ c.shift_up.ensures
+returns-then-top-gt-MOST c = let a = c in joined_full _ a.args.count a.requires.0 a.args.t _ _ c.first_at-at.ensures c.run_end-end.ensures a.requires.1 c.if-top-gt-MOST.true _

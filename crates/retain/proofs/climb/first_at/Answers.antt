@@ -55,10 +55,10 @@ module _ (corners : List ℕ) (t : ℕ) (o : ordered corners ≡ true) (shut : i
           (λ e. let q : k ≡ n - 1 → ⊥ = eqb-false _ _ e in let s : ignition (get_or corners k 0) < ignition (get_or corners (n - 1) 0) = (ordered_at corners o k (n - 1) (omega arith) (omega arith)).right in omega arith)
 
 pub returns-then-place-eq0 : goal.returns-then-place-eq0
-returns-then-place-eq0 c = let a = c in none _ a.args.t a.requires.0 a.requires.1 _ c.if-place-eq0.true c.place_of-place.ensures
+returns-then-place-eq0 c = let a = c in none _ a.args.t a.args.corners.in_order a.requires _ c.if-place-eq0.true c.place_of-place.ensures
 
 pub returns-then-t-corner : goal.returns-then-t-corner
-returns-then-t-corner c = let a = c in tied _ a.args.t a.requires.0 a.requires.1 _ c.if-place-eq0.false c.place_of-place.ensures c.if-t-corner.true
+returns-then-t-corner c = let a = c in tied _ a.args.t a.args.corners.in_order a.requires _ c.if-place-eq0.false c.place_of-place.ensures c.if-t-corner.true
 
 pub returns : goal.returns
-returns c = let a = c in apart _ a.args.t a.requires.0 a.requires.1 _ c.if-place-eq0.false c.place_of-place.ensures c.if-t-corner.false
+returns c = let a = c in apart _ a.args.t a.args.corners.in_order a.requires _ c.if-place-eq0.false c.place_of-place.ensures c.if-t-corner.false

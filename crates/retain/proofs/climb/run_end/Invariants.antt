@@ -1,11 +1,8 @@
 -- `retain::climb::run_end` meets its contract: no corner passed has a lower tick.
-use Prim.Native.Nat.{ℕ, ◌-◌, ◌<◌, ◌≤◌}
-use lib.ListN.{length, get_or}
+use Prim.Native.Nat.{ℕ, ◌<◌, ◌≤◌}
+use lib.ListN.{get_or}
 use Rattle.chunk.specs.Entry.{tick}
 use Rattle.retain.proofs.climb.run_end.Given as goal
 
 abbrev pub invariant-loop-end : goal.invariant-loop-end
-invariant-loop-end l = (l.at ≤ l.end) × (l.end ≤ length l.corners) × ((k : ℕ) → k < l.end → l.at ≤ k → tick l.t ≤ tick (get_or l.corners k 0))
-
-abbrev pub decreases-loop-end : goal.decreases-loop-end
-decreases-loop-end l = length l.corners - l.end
+invariant-loop-end l = (k : ℕ) → k < l.end → l.at ≤ k → tick l.t ≤ tick (get_or l.corners k 0)

@@ -1,6 +1,6 @@
 -- `retain::in_order` meets its contract: from each corner on, what is left to test is the order of those left.
 use Prim.Native.Nat.{ℕ, ◌+◌, ◌<◌, ◌≤◌}
-use mathlib.Core.Path.{◌≡◌, refl, sym, ◌∙◌}
+use mathlib.Core.Path.{◌≡◌, refl, sym, ◌∙◌, ap}
 use mathlib.Core.Bool.{true, ◌&&◌}
 use mathlib.Core.List.{List, [], ◌∷◌}
 use native.Mathlib.Omega.{arith}
@@ -19,10 +19,6 @@ unfolding ordered
 none [] h = refl
 none (a ∷ l) h = absurd (omega arith)
 
-one : (l : List ℕ) → (length l ≡ 0 → ⊥) → ordered l ≡ ordered (get_or l 0 0 ∷ drop 1 l)
-one [] h = absurd (h refl)
-one (a ∷ l) h = refl
-
 turn : (l : List ℕ) (last i : ℕ) → i < length l
     → ordered (last ∷ drop i l)
     ≡ ((ltb (entry.ignition last) (entry.ignition (get_or l i 0)) && ltb (entry.tick (get_or l i 0)) (entry.tick last)) && ordered (get_or l i 0 ∷ drop (i + 1) l))
@@ -33,20 +29,20 @@ done : (l : List ℕ) (last i : ℕ) → length l ≤ i → true ≡ ordered (la
 unfolding ordered
 done l last i h = simp (drop_of_length-le l h)
 
-pub returns-then-corners-eq0 : goal.returns-then-corners-eq0
-returns-then-corners-eq0 c = none _ c.if-corners-eq0.true
+pub returns-in_default : goal.returns-in_default
+returns-in_default c = none _ c.in_default.ensures.cases
 
-pub loop-i-init : goal.loop-i-init
-loop-i-init c = (omega arith, one _ c.if-corners-eq0.false)
+pub loop-next-init : goal.loop-next-init
+loop-next-init c = ap ordered c.in-Some.ensures.cases.0
 
 pub returns-then-next-last : goal.returns-then-next-last
-returns-then-next-last c = let l = c.loop-i in sym (l.invariant.1 ∙ turn _ _ _ c.loop-i-test.true ∙ simp (le-ltb _ _ c.if-next-last.true))
+returns-then-next-last c = let l = c.loop-next in sym (l.invariant ∙ turn _ _ _ c.loop-next-test.true ∙ simp (le-ltb _ _ c.if-next-last.true))
 
 pub returns-then-last-next : goal.returns-then-last-next
-returns-then-last-next c = let l = c.loop-i in sym (l.invariant.1 ∙ turn _ _ _ c.loop-i-test.true ∙ simp (le-ltb _ _ c.if-last-next.true, and-false))
+returns-then-last-next c = let l = c.loop-next in sym (l.invariant ∙ turn _ _ _ c.loop-next-test.true ∙ simp (le-ltb _ _ c.if-last-next.true, and-false))
 
-pub loop-i-preserved : goal.loop-i-preserved
-loop-i-preserved c = let l = c.loop-i in (omega arith, l.invariant.1 ∙ turn _ _ _ c.loop-i-test.true ∙ simp (lt-ltb _ _ c.if-next-last.false, lt-ltb _ _ c.if-last-next.false))
+pub loop-next-preserved : goal.loop-next-preserved
+loop-next-preserved c = let l = c.loop-next in l.invariant ∙ turn _ _ _ c.loop-next-test.true ∙ simp (lt-ltb _ _ c.if-next-last.false, lt-ltb _ _ c.if-last-next.false)
 
 pub returns : goal.returns
-returns c = let l = c.loop-i in done _ _ _ c.loop-i-test.false ∙ sym l.invariant.1
+returns c = let l = c.loop-next in done _ _ _ c.loop-next-test.false ∙ sym l.invariant

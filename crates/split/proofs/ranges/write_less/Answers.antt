@@ -4,8 +4,8 @@ use mathlib.Core.Path.{◌≡◌, refl, sym, ◌∙◌, ap}
 use mathlib.Core.List.{List, [], ◌∷◌, ◌++◌, map}
 use native.Mathlib.Omega.{arith}
 use native.Mathlib.Numerals.{add-one}
-use lib.ListN.{length, take, drop, get_or, set, length-map, length-set}
-use lib.Seq.{take_all, paste, paste-zero, paste-suc, sets, sets-eq}
+use lib.ListN.{length, take, drop, get_or, set, length-map}
+use lib.Seq.{take_all, paste, paste-suc, sets, sets-eq}
 use Rattle.split.proofs.ranges.write_less.Goals as goal
 
 -- what a loop that writes from a place on holds, one word more and at its end
@@ -26,25 +26,15 @@ less-at less [] i = omega arith
 less-at less (e ∷ ends) zero = refl
 less-at less (e ∷ ends) (suc i) = less-at less ends i
 
-pub loop-i-init : goal.loop-i-init
-loop-i-init c = (omega arith, refl, paste-zero c.args.out.now c.args.at (less_by c.args.less c.args.ends.now))
-
-pub overflow_sub-out : goal.overflow_sub-out
-overflow_sub-out c = c.requires.1 c.loop-i.i (omega arith)
-
 pub loop-i-preserved : goal.loop-i-preserved
 loop-i-preserved c =
     let l = c.loop-i in
     let e = c.requires.0 in
-    let n = length-map c.args.ends.now (λ (x : ℕ). x - c.args.less) in (
-      omega arith,
-      simp length-set l.invariant.1,
-      pasted_step c.args.out.now (less_by c.args.less c.args.ends.now) c.args.at l.i (omega arith) (omega arith) l.invariant.2
-          (sym (less-at c.args.less c.args.ends.now l.i)),
-    )
+    let n = length-map c.args.ends.now (λ (x : ℕ). x - c.args.less) in
+    pasted_step c.args.out.now (less_by c.args.less c.args.ends.now) c.args.at l.i (omega arith) (omega arith) l.invariant (sym (less-at c.args.less c.args.ends.now l.i))
 
 pub returns : goal.returns
 returns c =
     let l = c.loop-i in
     let n = length-map c.args.ends.now (λ (x : ℕ). x - c.args.less) in
-    l.invariant.2 ∙ pasted_end c.args.out.now (less_by c.args.less c.args.ends.now) c.args.at l.i (omega (arith, c.requires.0)) (omega (arith, l.invariant.0)) (omega arith)
+    l.invariant ∙ pasted_end c.args.out.now (less_by c.args.less c.args.ends.now) c.args.at l.i (omega (arith, c.requires.0)) (omega arith) (omega arith)

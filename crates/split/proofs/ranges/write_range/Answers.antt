@@ -7,14 +7,8 @@ use lib.ListN.{set}
 use lib.Seq.{sets}
 use Rattle.laws.specs.Picked.{part}
 use Rattle.meld.proofs.Copy.{copied-sets}
-use Rattle.split.proofs.Spans.{length_part, ends_above, range_written}
+use Rattle.split.proofs.Spans.{length_part, range_written}
 use Rattle.split.proofs.ranges.write_range.Goals as goal
-
-pub write_less-requires : goal.write_less-requires
-write_less-requires c =
-    let p = c.requires.len.1 in
-    let l = length_part c.args.here.lower c.args.here.upper c.args.ends.now p.within in
-    (omega (arith, c.requires.out_len, c.copy_into.auto.dst), ends_above c.args.ends.now c.args.below c.args.here p)
 
 pub returns : goal.returns
 returns c =

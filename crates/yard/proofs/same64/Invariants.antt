@@ -1,9 +1,0 @@
--- `yard::same64` stays within both buffers, and ends.
-use Rattle.std.proofs.Common.{◌-◌, ◌≤◌}
-use Rattle.yard.proofs.same64.Given as goal
-
-abbrev pub invariant-loop-i : goal.invariant-loop-i
-invariant-loop-i l = l.i ≤ 64
-
-abbrev pub decreases-loop-i : goal.decreases-loop-i
-decreases-loop-i l = 64 - l.i

@@ -256,7 +256,8 @@ fn survey(
     ensures scratch_after { scratch.new ≡ placed start (report_words (surveyed first.entry.ends.now first.entry.items.now second.entry.ends.now second.entry.items.now (reports_at scratch.old from count))) scratch.old }
 {
     let mut at = start;
-    // Kept: no row lends the reports, since the scratch that they stand in is written; with `split_at_mut` the places of this layer's reports would be told from another start than the layers' own.
+    // Kept: no row lends the reports, since the scratch that they stand in is written; with `split_at_mut` the places of this layer's reports
+    // would be told from another start than those of the layer above.
     for n in 0..count {
         let report = Report::read(scratch, from + 3 * n);
         at = survey_one(first, second, report, scratch, at);

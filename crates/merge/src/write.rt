@@ -45,6 +45,7 @@ fn put_items(out: &mut [u64], at: usize, items: &[u64]) -> usize
 const MANY: usize = 16;
 
 // Whether ends are many that follow one another, by the first and the last of them.
+// Kept: that the ends rise is a clause of the three functions that copy ends; a type for it would hold one slice and nothing else.
 fn in_row(ends: &[u64]) -> bool
     requires { rises ends.now ≡ true }
     ensures { result ≡ true → InRow ends.now }

@@ -24,6 +24,7 @@ impl<'a> Keep<'a> {
 }
 
 // How many of the values from one index to another have a time with a diff, which is where more diffs end than before. So many end before the first.
+// Kept: that ends rise to their count is a clause of the four functions that count lists, of two layers' ends; a type for it would hold one slice and nothing else.
 #[tactic(auto, using(crate::proofs::Parting::end_within, crate::proofs::Stairs::byte_one))]
 fn count_values(
     diff_ends: &[u64],

@@ -2,7 +2,6 @@
 use Prim.Native.Nat.{ℕ, zero, suc}
 use mathlib.Core.Path.{◌≡◌, refl, sym, ap, ◌∙◌}
 use mathlib.Core.List.{List, ◌∷◌}
-use Rattle.chunk.specs.Entry.{Entry}
 use Rattle.reports.specs.Merge.{Survives}
 use Rattle.merge.specs.Outcome.{answer_by}
 use Rattle.whole.specs.Whole.{survives_of, survives, whole_number, clean_out, left_out}

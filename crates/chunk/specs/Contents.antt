@@ -1,6 +1,6 @@
 -- The contents table as the code hands it on (document 01, "A chunk in words"): the four counts, the place of each body, and the
 -- chunk's size. Nothing outside this crate adds up a place by itself.
-use Rattle.std.specs.Prelude.{ℕ, zero, suc, ◌+◌, ◌*◌, ◌≤◌, Bool, true, false, cond, ◌&&◌, ◌≡◌, List, [], ◌∷◌, leb, ltb, length, get_or, Option, Some, None}
+use Rattle.std.specs.Prelude.{ℕ, zero, suc, ◌+◌, ◌*◌, ◌^◌, ◌≤◌, Bool, true, false, cond, ◌&&◌, ◌≡◌, List, [], ◌∷◌, leb, ltb, length, get_or, Option, Some, None}
 use Rattle.chunk.specs.declared.Contents.{Contents}
 use Rattle.chunk.specs.declared.Range.{Range}
 use Rattle.chunk.specs.Words.{nk, nv, nt, nd, table_size, table_fits, size, limit, over}
@@ -22,6 +22,10 @@ layout_of k v t d =
       diffs_at = table_size + 2 * k + 2 * v + 2 * t;
       size = table_size + 2 * k + 2 * v + 2 * t + d;
     }
+
+-- the same, where no count is over 2^60; of no items where one is
+unfoldable pub layout_near : ℕ → ℕ → ℕ → ℕ → Contents
+layout_near k v t d = cond (leb k (2 ^ 60) && (leb v (2 ^ 60) && (leb t (2 ^ 60) && leb d (2 ^ 60)))) (layout_of k v t d) (layout_of 0 0 0 0)
 
 -- the contents that the front of a slice says
 abbrev pub contents_in : List ℕ → Contents

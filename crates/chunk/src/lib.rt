@@ -1,7 +1,7 @@
 #![tactic(auto)]
 
 ghost use Rattle.std.specs.Prelude.{◌≡◌, suc, ◌≤◌, ◌<◌, ◌^◌, true, false, ◌&&◌, ◌||◌, eqb, length, [], ◌∷◌, MatchResult};
-ghost use Rattle.chunk.specs.Contents.{contents_of, layout_of, layout_within, with_table, child_range};
+ghost use Rattle.chunk.specs.Contents.{contents_of, layout_of, layout_near, layout_within, with_table, child_range};
 ghost use Rattle.chunk.specs.Time.{earlier, at_or_below};
 ghost use Rattle.chunk.specs.Check.{checked_of};
 ghost use Rattle.chunk.specs.Answer.{number_of};
@@ -94,6 +94,9 @@ impl Refusal {
 // The most times that a chunk may have.
 const LIMIT: usize = 1048576;
 
+// The greatest count whose places are summed up.
+const NEAR: usize = 1 << 60;
+
 // How many lists are tested together.
 const PART: usize = 512;
 
@@ -102,7 +105,7 @@ const TABLE: usize = 4;
 
 // The places of the bodies for these counts, which are known to be small.
 // Kept: four counts, as the definitions and LayoutSettles and TableSettles name them.
-pub fn places(nk: usize, nv: usize, nt: usize, nd: usize) -> Contents
+fn summed(nk: usize, nv: usize, nt: usize, nd: usize) -> Contents
     requires { (nk ≤ 2 ^ 60) × (nv ≤ 2 ^ 60) × (nt ≤ 2 ^ 60) × (nd ≤ 2 ^ 60) }
     ensures { result ≡ layout_of nk nv nt nd }
 {
@@ -130,6 +133,17 @@ pub fn places(nk: usize, nv: usize, nt: usize, nd: usize) -> Contents
     }
 }
 
+// The places of the bodies for these counts, where none is over 2^60; of no items where one is.
+pub fn places(nk: usize, nv: usize, nt: usize, nd: usize) -> Contents
+    ensures value { result ≡ layout_near nk nv nt nd }
+    ensures near { (nk ≤ 2 ^ 60) × (nv ≤ 2 ^ 60) × (nt ≤ 2 ^ 60) × (nd ≤ 2 ^ 60) → result ≡ layout_of nk nv nt nd }
+{
+    if NEAR < nk || NEAR < nv || NEAR < nt || NEAR < nd {
+        return summed(0, 0, 0, 0);
+    }
+    summed(nk, nv, nt, nd)
+}
+
 // The contents of a slice whose table fits it; none where it doesn't. No count is added up before it is known to be small.
 pub fn read_contents(words: &[u64]) -> Option<Contents>
     ensures { result ≡ contents_of words.now }
@@ -145,7 +159,7 @@ pub fn read_contents(words: &[u64]) -> Option<Contents>
     if room < nk || room < nv || room < nt || room < nd {
         return None;
     }
-    let found = places(nk, nv, nt, nd);
+    let found = summed(nk, nv, nt, nd);
     if room < found.size {
         return None;
     }
@@ -159,7 +173,7 @@ pub fn layout(nk: usize, nv: usize, nt: usize, nd: usize) -> Option<Contents>
     if LIMIT < nk || LIMIT < nv || LIMIT < nt || LIMIT < nd {
         return None;
     }
-    Some(places(nk, nv, nt, nd))
+    Some(summed(nk, nv, nt, nd))
 }
 
 // Writes the contents table at the front of `out`; leaves a slice that is too short for it as it was.

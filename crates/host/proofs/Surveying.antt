@@ -17,7 +17,7 @@ use Rattle.reports.specs.Survey.{Report as Said}
 use Rattle.survey.specs.declared.Report.{Report}
 use Rattle.survey.specs.declared.Spot.{Spot}
 use Rattle.survey.specs.declared.Next.{Next}
-use Rattle.survey.specs.Reports.{kind_number, record_of, next_in, keys_of, surveyed_of}
+use Rattle.survey.specs.Reports.{record_of, next_in, keys_of, surveyed_of}
 use Rattle.survey.proofs.Nexts.{Turn, turn, left, outset, some_next, count_within}
 use Rattle.survey.proofs.Nexts.{whole as pair_whole}
 use Rattle.survey.proofs.Plans.{taken_keys, taken_count, Accepted, accepted, Counted, counted, numbered}
@@ -26,7 +26,7 @@ use Rattle.host.specs.Listing.{RoomInWords, report_words, reports_of, list_numbe
 use Rattle.host.proofs.Laid.{stored1, kept_by, answers_refused, answers_laid}
 
 -- a report's words, and those of the reports behind it
-report-cons : (s : Said) (rs : List Said) → report_words (s ∷ rs) ≡ kind_number (record_of s).kind ∷ (record_of s).low ∷ (record_of s).high ∷ report_words rs
+report-cons : (s : Said) (rs : List Said) → report_words (s ∷ rs) ≡ (record_of s).kind ∷ (record_of s).low ∷ (record_of s).high ∷ report_words rs
 unfolding report_words
 report-cons (this l h) rs = refl
 report-cons (that l h) rs = refl
@@ -79,16 +79,16 @@ module _ (xs ys : List ℕ) (count : ℕ) (out₀ : List ℕ) where
         sym (f.whole ∙ ap (λ (l : List Said). take (3 * at) out ++ over (report_words l) (drop (3 * at) out)) z ∙ take-append-drop (3 * at) out)
 
     pub fill_more : (nx : Next) → Some nx ≡ next_in xs ys s.i s.j → at < count → (out' : List ℕ)
-        → out' ≡ take (3 * at) out ++ (kind_number nx.report.kind ∷ nx.report.low ∷ nx.report.high ∷ drop (3 * at + 3) out)
+        → out' ≡ take (3 * at) out ++ (nx.report.kind ∷ nx.report.low ∷ nx.report.high ∷ drop (3 * at + 3) out)
         → Filling xs ys count out₀ nx.spot (at + 1) out'
     fill_more nx e h out' p =
         let t : Turn xs ys s nx = turn xs ys s f.in_i f.in_j nx e in
         let said : Report = nx.report in
         let rest : List ℕ = report_words (left xs ys nx.spot) in
-        let P : List ℕ = take (3 * at) out ++ (kind_number said.kind ∷ said.low ∷ said.high ∷ drop (3 * at + 3) out) in
-        let words : report_words (left xs ys s) ≡ kind_number said.kind ∷ said.low ∷ said.high ∷ rest =
+        let P : List ℕ = take (3 * at) out ++ (said.kind ∷ said.low ∷ said.high ∷ drop (3 * at + 3) out) in
+        let words : report_words (left xs ys s) ≡ said.kind ∷ said.low ∷ said.high ∷ rest =
         ap report_words t.split ∙ report-cons t.said (left xs ys nx.spot)
-        ∙ ap (λ (r : Report). kind_number r.kind ∷ r.low ∷ r.high ∷ rest) (sym (ap (λ (x : Next). x.report) t.is)) in
+        ∙ ap (λ (r : Report). r.kind ∷ r.low ∷ r.high ∷ rest) (sym (ap (λ (x : Next). x.report) t.is)) in
         let long : length P ≡ length out =
         simp (length-append, length-take, length-drop) (omega (arith, f.room, f.counted, ap length t.split)) in
         let q : 3 * (at + 1) ≡ 3 * at + 3 = omega arith in
@@ -100,7 +100,7 @@ module _ (xs ys : List ℕ) (count : ℕ) (out₀ : List ℕ) where
           room = omega (arith, f.room);
           same = omega (arith, f.same);
           whole = f.whole ∙ ap (λ (ws : List ℕ). take (3 * at) out ++ over ws (drop (3 * at) out)) words
-              ∙ three_more (3 * at) (3 * at + 3) out (kind_number said.kind) said.low said.high rest refl (omega (arith, f.room))
+              ∙ three_more (3 * at) (3 * at + 3) out said.kind said.low said.high rest refl (omega (arith, f.room))
               ∙ ap (λ (n : ℕ). take n P ++ over rest (drop n P)) (sym q);
         })
 

@@ -8,7 +8,7 @@ ghost use Rattle.meld.specs.Meld.{Melded};
 ghost use Rattle.retain.specs.Cut.{filter_number, filter_out};
 ghost use Rattle.split.specs.Cut.{Split};
 ghost use Rattle.reports.specs.Survey.{reports};
-ghost use Rattle.survey.specs.Reports.{keys_of, kind_number};
+ghost use Rattle.survey.specs.Reports.{keys_of};
 ghost use Rattle.reports.specs.Merge.{suffix_number, suffix_out};
 ghost use Rattle.merge.specs.Outcome.{joined_of};
 ghost use Rattle.host.specs.Answers.{check_number, check_answer, check_words, walker_words, start_number, start_answer, Answers};
@@ -269,9 +269,9 @@ pub fn rl_extract(
 // A report's three words from an index on.
 fn write_report(out: &mut [u64], at: usize, report: Report)
     requires { at + 3 ≤ length out.old }
-    ensures { out.new ≡ take at out.old ++ (kind_number report.kind ∷ report.low ∷ report.high ∷ drop (at + 3) out.old) }
+    ensures { out.new ≡ take at out.old ++ (report.kind ∷ report.low ∷ report.high ∷ drop (at + 3) out.old) }
 {
-    out[at..at + REPORT_WORDS].copy_from_slice(&[report.kind as u64, report.low, report.high]);
+    out[at..at + REPORT_WORDS].copy_from_slice(&[report.kind, report.low, report.high]);
 }
 
 // All reports of two chunks' keys, `count` of them, at the front of a slice.

@@ -1,14 +1,26 @@
 -- Each promise settles its outcome: it says what the answer and each lent slice are, so two outcomes are that one.
 use Prim.Native.Nat.{ℕ}
-use mathlib.Core.Path.{◌≡◌, refl, sym, ap, ◌∙◌}
-use Rattle.std.specs.Prelude.{Ok, Err}
-use mathlib.Core.List.{List}
+use mathlib.Core.Path.{◌≡◌, refl, sym, ap, subst, ◌∙◌}
+use Rattle.std.specs.Prelude.{Ok, Err, ◌<◌}
+use mathlib.Core.Bool.{true}
+use mathlib.Core.List.{List, [], ◌∷◌}
+use native.Mathlib.Omega.{arith}
+use borrow.Author.Tests.{ne_eqb}
+use Rattle.laws.proofs.Tests.{true-not-false}
+use Rattle.chunk.specs.declared.Contents.{Contents}
+use Rattle.chunk.specs.Contents.{Placed}
+use Rattle.chunk.specs.Entry.{Entry}
+use Rattle.chunk.specs.Words.{nt, well_formed}
+use Rattle.chunk.specs.Words.{settled as is_settled}
+use Rattle.chunk.specs.Refusal.{first, malformed, unsettled, empty}
+use Rattle.chunk.proofs.Placed.{laid_by}
+use Rattle.sort.specs.Sort.{entry_of}
 use lib.ListN.{length}
 use Rattle.reports.specs.Merge.{merge_number, merge_out}
 use Rattle.merge.specs.Outcome.{Joined, answer_by, merge_answer}
 use Rattle.ledger.proofs.Numbered.{one_number, none_of, one_answer}
 use Rattle.whole.specs.Whole.{survives, whole_number, clean_out, left_out}
-use Rattle.ledger.specs.Settles.{Two, Three, AnswerSettles, JoinedSettles, CheckSettles, FormSettles, UnsortedSettles, FilterSettles, SplitSettles, SuffixSettles, MeldSettles, ContentsSettles, LayoutSettles, TableSettles, ChildSettles, EarlierSettles, BelowSettles, SortSettles, CopySettles, ShiftSettles, ExtractSettles, FrontierSettles, RunSettles, StartSettles, StepSettles, AdvanceSettles, BeginSettles, StepInPlaceSettles, StartInPlaceSettles, NextSettles, PlanSettles, SurveySettles, ListedSettles, MergeSettles, WholeSettles, ScratchIdle, WholeScratchIdle}
+use Rattle.ledger.specs.Settles.{Two, Three, Lent, LentOf, PlacesSettles, NumberSettles, BodySettles, FormedSettles, SettledSettles, FilledSettles, ReadSettles, CountSettles, AnswerSettles, JoinedSettles, CheckSettles, FormSettles, UnsortedSettles, FilterSettles, SplitSettles, SuffixSettles, MeldSettles, ContentsSettles, LayoutSettles, TableSettles, ChildSettles, EarlierSettles, BelowSettles, SortSettles, CopySettles, ShiftSettles, ExtractSettles, FrontierSettles, RunSettles, StartSettles, StepSettles, AdvanceSettles, BeginSettles, StepInPlaceSettles, StartInPlaceSettles, NextSettles, PlanSettles, SurveySettles, ListedSettles, MergeSettles, WholeSettles, ScratchIdle, WholeScratchIdle}
 
 -- the one law: what a promise says by an equation is settled
 pub settled : {A : Type 0} {x y z : A} → x ≡ z → y ≡ z → x ≡ y
@@ -63,6 +75,9 @@ contents_settles w o q h k = settled h k
 pub layout_settles : LayoutSettles
 layout_settles a b c d o q h k = settled h k
 
+pub places_settles : PlacesSettles
+places_settles a b c d o q h k = settled h k
+
 pub table_settles : TableSettles
 table_settles a b c d out o q h k = settled h k
 
@@ -75,6 +90,49 @@ earlier_settles s t o q h k = settled h k
 pub below_settles : BelowSettles
 below_settles s t o q h k = settled h k
 
+pub number_settles : NumberSettles
+number_settles r o q h k = settled h k
+
+pub body_settles : BodySettles
+body_settles body w o q h k = settled h k
+
+-- the contents of one chunk's words are one
+one_contents : (w : List ℕ) (c d : Contents) → Placed c w → Placed d w → c ≡ d
+one_contents w c d h k = laid_by c w h ∙ sym (laid_by d w k)
+
+one_lent : (w : List ℕ) (c d : Lent) → LentOf w c → LentOf w d → c ≡ d
+one_lent w c d h k = pair c d (settled h.0 k.0) (one_contents w c.1 d.1 (subst (Placed c.1) h.0 h.1) (subst (Placed d.1) k.0 k.1))
+
+-- no test fails of what is settled, nor of what is filled
+sound : (w : List ℕ) → well_formed w ≡ true → is_settled w ≡ true → first (malformed w ∷ unsettled w ∷ []) ≡ 0
+unfolding first
+sound w h k = simp (h, k)
+
+full : (w : List ℕ) → well_formed w ≡ true → is_settled w ≡ true → 0 < nt w → first (malformed w ∷ unsettled w ∷ empty w ∷ []) ≡ 0
+unfolding first
+full w h k n = simp (h, k, ne_eqb (nt w) 0 (omega arith))
+
+pub formed_settles : FormedSettles
+formed_settles w (Ok c) (Ok d) h k = ap Ok (one_lent w c d h.0 k.0)
+formed_settles w (Ok c) (Err r) h k = absurd (true-not-false (sym h.1 ∙ k.1))
+formed_settles w (Err r) (Ok d) h k = absurd (true-not-false (sym k.1 ∙ h.1))
+formed_settles w (Err r) (Err s) h k = ap Err (settled h.0 k.0)
+
+pub settled_settles : SettledSettles
+settled_settles w (Ok c) (Ok d) h k = ap Ok (one_lent w c d h.0 k.0)
+settled_settles w (Ok c) (Err r) h k = absurd (none_of r (sym (k ∙ sound w h.1.0 h.1.1)))
+settled_settles w (Err r) (Ok d) h k = absurd (none_of r (sym (h ∙ sound w k.1.0 k.1.1)))
+settled_settles w (Err r) (Err s) h k = ap Err (one_number r s (settled h k))
+
+pub filled_settles : FilledSettles
+filled_settles w (Ok c) (Ok d) h k = ap Ok (one_lent w c d h.0 k.0)
+filled_settles w (Ok c) (Err r) h k = absurd (none_of r (sym (k ∙ full w h.1.0 h.1.1.0 h.1.1.1)))
+filled_settles w (Err r) (Ok d) h k = absurd (none_of r (sym (h ∙ full w k.1.0 k.1.1.0 k.1.1.1)))
+filled_settles w (Err r) (Err s) h k = ap Err (one_number r s (settled h k))
+
+pub read_settles : ReadSettles
+read_settles us i o q h k = let e : entry_of o ≡ entry_of q = settled h k in ap (λ (x : Entry). record { key = x.key; val = x.val; time = x.time; diff = x.diff }) e
+
 pub sort_settles : SortSettles
 sort_settles us o q h k = settled h k
 
@@ -86,6 +144,9 @@ shift_settles by dst ends o q h k = settled h k
 
 pub extract_settles : ExtractSettles
 extract_settles count corners w kept shipped o q h k = two o q (one_answer o.0 q.0 _ (settled h.number k.number) h.answer k.answer) (settled h.keeps k.keeps) (settled h.ships k.ships)
+
+pub count_settles : CountSettles
+count_settles from dst o q h k = settled h k
 
 pub frontier_settles : FrontierSettles
 frontier_settles o q h k = settled h k

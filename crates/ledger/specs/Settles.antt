@@ -1,16 +1,20 @@
 -- "For any call, two outcomes that its promise allows are shown equal", and "no answer may depend on what scratch held" (document 01,
 -- "What the promises have to settle"). An outcome is the answer and every slice lent to write to, as it stands afterwards; what a promise
 -- allows is what the public function ensures. Each statement is a type here, and a theorem of proofs/Settles.antt.
-use Rattle.std.specs.Prelude.{ℕ, ◌≡◌, Bool, List, length, Option, Result}
+use Rattle.std.specs.Prelude.{ℕ, ◌≡◌, ◌<◌, Bool, true, false, List, [], ◌∷◌, length, Option, Result, MatchResult}
 use Rattle.chunk.specs.declared.Checked.{Checked}
 use Rattle.chunk.specs.declared.Contents.{Contents}
 use Rattle.chunk.specs.declared.Range.{Range}
 use Rattle.chunk.specs.declared.Refusal.{Refusal}
-use Rattle.chunk.specs.Answer.{answer_number}
+use Rattle.chunk.specs.declared.Refusal.TheVariants.{Malformed}
+use Rattle.chunk.specs.Answer.{number_of, answer_number}
+use Rattle.chunk.specs.Words.{nt, well_formed, settled}
+use Rattle.chunk.specs.Refusal.{first, malformed, unsettled, empty}
 use Rattle.chunk.specs.Time.{earlier, at_or_below}
-use Rattle.chunk.specs.Contents.{contents_of, layout_within, with_table, child_range}
+use Rattle.chunk.specs.Contents.{contents_of, layout_within, layout_near, with_table, child_range, Placed}
 use Rattle.chunk.specs.Check.{checked_of}
-use Rattle.sort.specs.Sort.{sorted_words}
+use Rattle.sort.specs.declared.Update.{Update}
+use Rattle.sort.specs.Sort.{entry_of, nth, updates, sorted_words}
 use Rattle.form.specs.Form.{FormAnswers, UnsortedAnswers}
 use Rattle.merge.specs.declared.Survivor.{Survivor}
 use Rattle.reports.specs.Merge.{Place, merge_number, suffix_number, suffix_out}
@@ -23,7 +27,7 @@ use Rattle.retain.specs.declared.Extracted.{Extracted}
 use Rattle.retain.specs.declared.Frontier.{Frontier}
 use Rattle.retain.specs.Found.{empty_frontier}
 use Rattle.retain.specs.Answer.{Extraction}
-use Rattle.meld.specs.Copy.{copied, shifted_all}
+use Rattle.meld.specs.Copy.{copied, shifted_all, counted_on}
 use Rattle.meld.specs.Meld.{Melded}
 use Rattle.whole.specs.Whole.{WholeAnswers}
 use Rattle.walk.specs.declared.Walker.{Walker}
@@ -107,6 +111,10 @@ ContentsSettles = (w : List ℕ) → Settled (λ (o : Option Contents). o ≡ co
 abbrev pub LayoutSettles : Type 0
 LayoutSettles = (k v t d : ℕ) → Settled (λ (o : Option Contents). o ≡ layout_within k v t d)
 
+-- places
+abbrev pub PlacesSettles : Type 0
+PlacesSettles = (k v t d : ℕ) → Settled (λ (o : Contents). o ≡ layout_near k v t d)
+
 -- write_table
 abbrev pub TableSettles : Type 0
 TableSettles = (k v t d : ℕ) (out : List ℕ) → Settled (λ (o : List ℕ). o ≡ with_table k v t d out)
@@ -123,6 +131,46 @@ EarlierSettles = (s t : ℕ) → Settled (λ (o : Bool). o ≡ earlier s t)
 abbrev pub BelowSettles : Type 0
 BelowSettles = (s t : ℕ) → Settled (λ (o : Bool). o ≡ at_or_below s t)
 
+-- the number of a refusal
+abbrev pub NumberSettles : Type 0
+NumberSettles = (r : Refusal) → Settled (λ (o : ℕ). o ≡ number_of r)
+
+-- the bodies of a lent chunk and all of its words: each is an equation with one of these, or with the front of the words
+abbrev pub BodySettles : Type 0
+BodySettles = (body : List ℕ → List ℕ) (w : List ℕ) → Settled (λ (o : List ℕ). o ≡ body w)
+
+-- a chunk that is lent: its words and their contents, which the bodies stand by
+abbrev pub Lent : Type 0
+Lent = List ℕ × Contents
+
+-- such a chunk of these words
+abbrev pub LentOf : List ℕ → Lent → Type 0
+LentOf w c = (c.0 ≡ w) × Placed c.1 c.0
+
+-- formed
+abbrev pub FormedSettles : Type 0
+FormedSettles =
+    (w : List ℕ)
+    → Settled (λ (o : Result Lent Refusal). MatchResult o (λ c. LentOf w c × (well_formed w ≡ true)) (λ e. (e ≡ Malformed) × (well_formed w ≡ false)))
+
+-- settled
+abbrev pub SettledSettles : Type 0
+SettledSettles =
+    (w : List ℕ)
+    → Settled (λ (o : Result Lent Refusal). MatchResult o (λ c. LentOf w c × ((well_formed w ≡ true) × (settled w ≡ true)))
+    (λ e. number_of e ≡ first (malformed w ∷ unsettled w ∷ [])))
+
+-- filled
+abbrev pub FilledSettles : Type 0
+FilledSettles =
+    (w : List ℕ)
+    → Settled (λ (o : Result Lent Refusal). MatchResult o (λ c. LentOf w c × ((well_formed w ≡ true) × ((settled w ≡ true) × (0 < nt w))))
+    (λ e. number_of e ≡ first (malformed w ∷ unsettled w ∷ empty w ∷ [])))
+
+-- the update of a number
+abbrev pub ReadSettles : Type 0
+ReadSettles = (us : List ℕ) (i : ℕ) → Settled (λ (o : Update). entry_of o ≡ nth (updates us) i)
+
 -- sort_updates
 abbrev pub SortSettles : Type 0
 SortSettles = (us : List ℕ) → Settled (λ (o : List ℕ). o ≡ sorted_words us)
@@ -134,6 +182,10 @@ CopySettles = (dst src : List ℕ) → Settled (λ (o : List ℕ). o ≡ copied 
 -- copy_shifted
 abbrev pub ShiftSettles : Type 0
 ShiftSettles = (by : ℕ) (dst ends : List ℕ) → Settled (λ (o : List ℕ). o ≡ copied dst (shifted_all by ends))
+
+-- count_on
+abbrev pub CountSettles : Type 0
+CountSettles = (from : ℕ) (dst : List ℕ) → Settled (λ (o : List ℕ). o ≡ counted_on from (length dst))
 
 -- Frontier::new
 abbrev pub FrontierSettles : Type 0

@@ -5,7 +5,7 @@ ghost use Rattle.reports.specs.Survey.{this, that, both};
 ghost use Rattle.merge.specs.Said.{said};
 
 // What a report names: a run of the first input, a run of the second, an item of both.
-// Kept: beside the kind, report and spot of `survey`, which are document 01's public records of 64-bit words; these go by indices, and stand in scratch.
+// Kept: beside the kind and report of `survey`, whose report is document 01's public record of three 64-bit words; these go by indices, and stand in scratch.
 #[derive(Clone, Copy, PartialEq, Eq)]
 pub(crate) enum Kind {
     This,

@@ -1,11 +1,11 @@
 -- A time put among corners that stand at the front of 128 places: those behind it move, and what is left behind them is filled with zeros.
 use Prim.Native.Nat.{ℕ, suc, ◌+◌, ◌-◌, ◌<◌, ◌≤◌}
-use mathlib.Core.Path.{◌≡◌, sym, ◌∙◌, ap}
+use mathlib.Core.Path.{◌≡◌, sym, ◌∙◌, ap, subst}
 use mathlib.Core.Bool.{true, false}
-use mathlib.Core.List.{List, [], ◌∷◌, ◌++◌}
+use mathlib.Core.List.{List, [], ◌∷◌, ◌++◌, append_assoc}
 use native.Mathlib.Omega.{arith}
 use lib.Dec.{leb, eqb}
-use lib.ListN.{length, take, drop, get_or, set, replicate, length-append, length-drop, replicate-append-replicate}
+use lib.ListN.{length, take, drop, get_or, set, replicate, length-append, length-drop, replicate-append-replicate, take-append-drop}
 use lib.Seq.{paste, length-take-le, take-take, take-suc-set, take-set-lt, drop-append-add, set-append_left, drop-drop, take_at, drop_at, append_snoc}
 use Rattle.std.proofs.lemmas.List.{drop-take, drop-replicate}
 use borrow.Author.Tests.{leb-false, eqb-true, eqb-false, le-leb}
@@ -114,6 +114,19 @@ module _ (l : List ℕ) (count : ℕ) (w : Standing l count) (t n end : ℕ) (b 
 
     pub joined_on : count ≤ top → Joined t (take count l) top stored
     joined_on h = record { number = its_number; standing = λ q. stored_is ∙ (λ i. joined t (take count l) ++ blank top h i) ∙ ap (λ (m : ℕ). joined t (take count l) ++ replicate (128 - m) 0) its_number }
+
+    -- nothing moves where the time takes the place of one
+    unmoved : end ≡ n + 1 → paste l (n + 1) (drop end l) (count - end) ≡ l
+    unmoved e =
+        let m : ℕ = count - end in
+        ap (λ (k : ℕ). (take (n + 1) l ++ take m (drop k l)) ++ drop (n + 1 + m) l) e
+        ∙ append_assoc (take (n + 1) l) (take m (drop (n + 1) l)) (drop (n + 1 + m) l)
+        ∙ ap (λ (x : List ℕ). take (n + 1) l ++ (take m (drop (n + 1) l) ++ x)) (sym (drop-drop m (n + 1) l))
+        ∙ ap (λ (x : List ℕ). take (n + 1) l ++ x) (take-append-drop m (drop (n + 1) l))
+        ∙ take-append-drop (n + 1) l
+
+    pub joined_in_place : end ≡ n + 1 → Joined t (take count l) top (set l n t)
+    joined_in_place e = subst (λ (x : List ℕ). Joined t (take count l) top (set x n t)) (unmoved e) (joined_on (omega (arith, e, ended)))
 
     pub joined_back : top < count → (new : List ℕ) → new ≡ replicate (length (take (count - top) (drop top stored))) 0 → Joined t (take count l) top (put_mid top (count - top) stored new)
     joined_back h new e =

@@ -9,7 +9,7 @@ use crate::look::not_above;
 
 // The corners of a frontier: ignitions rise strictly and ticks fall strictly.
 #[derive(Clone, Copy)]
-pub(crate) struct Corners<'a> {
+pub struct Corners<'a> {
     pub times: &'a [u64],
     pub ghost in_order: { ordered times.now ≡ true },
 }

@@ -14,7 +14,7 @@ ghost use Rattle.retain.specs.Cut.{filter_number, filter_out};
 
 use chunk::{Chunk, Refusal};
 use climb::add_corner;
-use corners::Corners;
+pub use corners::Corners;
 use layers::write_layers;
 use look::in_order;
 use one_by_one::scan_corners;
@@ -33,7 +33,7 @@ mod stay;
 
 // Which times that have a diff stay: every one, those open under some corners, the others.
 #[derive(Clone, Copy)]
-pub(crate) enum Keep<'a> {
+pub enum Keep<'a> {
     All,
     Open(Corners<'a>),
     Shut(Corners<'a>),
@@ -41,21 +41,21 @@ pub(crate) enum Keep<'a> {
 
 // How many keys and values are left.
 #[derive(Clone, Copy)]
-pub(crate) struct Lists {
+pub struct Lists {
     pub keys: usize,
     pub vals: usize,
 }
 
 // What is left with an open time, and what with one that isn't.
 #[derive(Clone, Copy)]
-pub(crate) struct Both {
+pub struct Both {
     pub open: Lists,
     pub shut: Lists,
 }
 
 // How far a walk over the lists is: so many values and times are written, and the next list starts at this time.
 #[derive(Clone, Copy)]
-pub(crate) struct Reached {
+pub struct Reached {
     pub vals: usize,
     pub time: usize,
     pub times: usize,
@@ -164,7 +164,7 @@ impl Frontier {
 
 // How many times are open, and the frontier of those.
 #[derive(Clone, Copy)]
-pub(crate) struct Kept {
+pub struct Kept {
     pub number: usize,
     pub frontier: Frontier,
 }

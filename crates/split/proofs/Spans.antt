@@ -1,5 +1,6 @@
 -- A range of the records is a range of each layer: the lists that have an item of it, and their ends counted from its start.
 use Prim.Native.Nat.{ℕ, zero, suc, ◌+◌, ◌-◌, ◌<◌, ◌≤◌, min}
+use Rattle.std.specs.Prelude.{◌^◌}
 use mathlib.Core.Path.{◌≡◌, refl, sym, ◌∙◌, ap}
 use mathlib.Core.Bool.{Bool, true, false}
 use mathlib.Core.List.{List, [], ◌∷◌, ◌++◌, map}
@@ -325,11 +326,11 @@ pub record Layered (w : List ℕ) : Type 0 where
 -- the output's places
 pub range_cuts : {w : List ℕ} {ks vs ts : Range} {room : ℕ} {lay : Contents}
     → Layered w → Ranged w ks vs ts room
-    → lay ≡ layout_of (ks.upper - ks.lower) (vs.upper - vs.lower) (ts.upper - ts.lower) (ts.upper - ts.lower)
+    → ((ks.upper - ks.lower ≤ 2 ^ 60) × (vs.upper - vs.lower ≤ 2 ^ 60) × (ts.upper - ts.lower ≤ 2 ^ 60) × (ts.upper - ts.lower ≤ 2 ^ 60) → lay ≡ layout_of (ks.upper - ks.lower) (vs.upper - vs.lower) (ts.upper - ts.lower) (ts.upper - ts.lower))
     → OutCuts lay (ks.upper - ks.lower) (vs.upper - vs.lower) (ts.upper - ts.lower) room
 range_cuts {ks = ks} {vs = vs} {ts = ts} {room = room} {lay = lay} l r e =
     let a = r.keys_in.within in let b = r.vals_in.within in let d = r.times_in in
     let fk = l.few_keys in let fv = l.few_vals in let ft = l.few_times in
     let rk = l.over_vals.rows in let rv = l.over_times.rows in let f = r.fits in
     let lk = l.keys_all in let lv = l.vals_all in let s = l.settles in
-    out_cuts lay (ks.upper - ks.lower) (vs.upper - vs.lower) (ts.upper - ts.lower) room e (omega arith) (omega arith) (omega arith) (omega arith)
+    out_cuts lay (ks.upper - ks.lower) (vs.upper - vs.lower) (ts.upper - ts.lower) room (e (omega arith, omega arith, omega arith, omega arith)) (omega arith) (omega arith) (omega arith) (omega arith)

@@ -22,9 +22,9 @@ kind_number Both = 2
 
 -- a report as a record
 abbrev pub record_of : Said → Report
-record_of (this l h) = record { kind = This; low = l; high = h }
-record_of (that l h) = record { kind = That; low = l; high = h }
-record_of (both i j) = record { kind = Both; low = i; high = j }
+record_of (this l h) = record { kind = kind_number This; low = l; high = h }
+record_of (that l h) = record { kind = kind_number That; low = l; high = h }
+record_of (both i j) = record { kind = kind_number Both; low = i; high = j }
 
 -- where both inputs stand past a report
 abbrev pub spot_past : Said → ℕ → ℕ → Spot
@@ -89,7 +89,7 @@ filled_of a b lent = filled_for (survey_number a b (length lent)) a b lent
 
 -- sixteen records that hold no report
 abbrev pub blanks : List Report
-blanks = replicate 16 (record { kind = This; low = 0; high = 0 })
+blanks = replicate 16 (record { kind = kind_number This; low = 0; high = 0 })
 
 -- a survey into sixteen such records: what it answers, and the records after it
 abbrev pub listed_of : List ℕ → List ℕ → Listed

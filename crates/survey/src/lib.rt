@@ -16,10 +16,11 @@ pub enum Kind {
     Both = 2,
 }
 
-// A report: a run goes from `low` up to `high`; a shared key is at `low` in the first input and at `high` in the second.
+// A report: a run goes from `low` up to `high`; a shared key is at `low` in the first input and at `high` in the second. Its kind is a `Kind`'s number.
+// Kept: the kind is a word, since a caller may lend records of any kind, and those past the last report stay as they were.
 #[derive(Clone, Copy, Debug, PartialEq, Eq)]
 pub struct Report {
-    pub kind: Kind,
+    pub kind: u64,
     pub low: u64,
     pub high: u64,
 }
@@ -40,7 +41,7 @@ impl Spot {
     {
         Next {
             report: Report {
-                kind: Kind::This,
+                kind: Kind::This as u64,
                 low: self.i as u64,
                 high: end as u64,
             },
@@ -54,7 +55,7 @@ impl Spot {
     {
         Next {
             report: Report {
-                kind: Kind::That,
+                kind: Kind::That as u64,
                 low: self.j as u64,
                 high: end as u64,
             },
@@ -69,7 +70,7 @@ impl Spot {
     {
         Next {
             report: Report {
-                kind: Kind::Both,
+                kind: Kind::Both as u64,
                 low: self.i as u64,
                 high: self.j as u64,
             },
@@ -191,7 +192,7 @@ pub fn survey_listed(a: &[u64], b: &[u64]) -> Listed
     ensures { result ≡ listed_of a.now b.now }
 {
     let mut held = [Report {
-        kind: Kind::This,
+        kind: Kind::This as u64,
         low: 0,
         high: 0,
     }; 16];

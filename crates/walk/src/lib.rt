@@ -65,6 +65,10 @@ impl Ends<'_> {
         ensures { result ≡ reached_by (next_val self.entry.vals.now self.entry.times.now (place_of w)) }
     {
         let v = w.v.checked_add(1)?;
+        // Without this the keys are read to their last for a value that isn't there.
+        if self.times.len() <= v as usize {
+            return None;
+        }
         let keyed = self.to_key(Walker { v, ..w })?;
         let t_end = *self.times.get(keyed.v as usize)?;
         Some(Walker { t_end, ..keyed })
@@ -86,6 +90,10 @@ impl Ends<'_> {
         ensures { result ≡ reached_by (next_time self.entry.vals.now self.entry.times.now self.entry.diffs.now (place_of w)) }
     {
         let t = w.t.checked_add(1)?;
+        // Without this the values are read to their last for a time that isn't there.
+        if self.diffs.len() <= t as usize {
+            return None;
+        }
         let valued = self.to_val(Walker { t, ..w })?;
         let d_end = *self.diffs.get(valued.t as usize)?;
         Some(Walker { d_end, ..valued })

@@ -71,21 +71,20 @@ pub fn replay(rt: &impl Print) -> io::Result<()> {
 
 // A word as the lines have it: a number, or the time `i.t`.
 fn word(text: &str) -> Option<u64> {
-    match text.split_once('.') {
-        Some((ignition, tick)) => {
-            let ignition = u64::from(ignition.parse::<u32>().ok()?);
-            let tick = u64::from(tick.parse::<u32>().ok()?);
-            Some(ignition * 0x1_0000_0000 + tick)
-        }
-        None => Some(text.parse::<i64>().ok()?.cast_unsigned()),
+    if let Ok(number) = text.parse::<i64>() {
+        return Some(number.cast_unsigned());
     }
+    let (ignition, tick) = text.split_once('.')?;
+    let ignition = u64::from(ignition.parse::<u32>().ok()?);
+    let tick = u64::from(tick.parse::<u32>().ok()?);
+    Some(ignition * 0x1_0000_0000 + tick)
 }
 
 // The words of a field, at the front of 64 that are lent for them.
 // Kept: the count is not only each word's place but how many there are, which `enumerate` doesn't leave.
 fn words<'a>(field: &str, lent: &'a mut [u64; 64]) -> Option<&'a mut [u64]> {
     let mut count = 0;
-    for text in field.split_whitespace() {
+    for text in field.split_ascii_whitespace() {
         *lent.get_mut(count)? = word(text)?;
         count += 1;
     }

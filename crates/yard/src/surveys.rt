@@ -12,7 +12,7 @@ pub fn chunk_b() -> [u64; 16] {
 // A report's three numbers.
 // Kept: as numbers, as document 01 gives the answers.
 fn told(report: Report, kind: u64, low: u64, high: u64) -> bool {
-    [report.kind as u64, report.low, report.high] == [kind, low, high]
+    [report.kind, report.low, report.high] == [kind, low, high]
 }
 
 pub fn surveys(rt: &impl Print) -> io::Result<()> {

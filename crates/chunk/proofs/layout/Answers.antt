@@ -18,4 +18,4 @@ returns-then-nk-gt-LIMIT c =
 
 pub returns : goal.returns
 unfolding layout_within
-returns c = ap Some c.places.ensures ∙ simp (le-leb _ _ c.if-nk-gt-LIMIT.false, le-leb _ _ c.if-nv-gt-LIMIT.false, le-leb _ _ c.if-nt-gt-LIMIT.false, le-leb _ _ c.if-nd-gt-LIMIT.false)
+returns c = ap Some c.summed.ensures ∙ simp (le-leb _ _ c.if-nk-gt-LIMIT.false, le-leb _ _ c.if-nv-gt-LIMIT.false, le-leb _ _ c.if-nt-gt-LIMIT.false, le-leb _ _ c.if-nd-gt-LIMIT.false)

@@ -35,7 +35,7 @@ returns-then-room-nk c =
     ])
 
 pub returns-then-room-found : goal.returns-then-room-found
-returns-then-room-found c = misfit _ (omega (arith, ap (λ (x : Contents). x.size) c.places-found.ensures))
+returns-then-room-found c = misfit _ (omega (arith, ap (λ (x : Contents). x.size) c.summed-found.ensures))
 
 pub returns : goal.returns
-returns c = ap Some c.places-found.ensures ∙ fits _ (omega arith) (omega (arith, ap (λ (x : Contents). x.size) c.places-found.ensures))
+returns c = ap Some c.summed-found.ensures ∙ fits _ (omega arith) (omega (arith, ap (λ (x : Contents). x.size) c.summed-found.ensures))

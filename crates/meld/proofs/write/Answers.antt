@@ -1,5 +1,5 @@
 -- `meld::write` meets its contract: the table, then seven bodies in their places.
-use Rattle.std.proofs.Common.{◌≡◌, ℕ, ◌-◌, take, refl, ap, ◌∙◌}
+use Rattle.std.proofs.Common.{◌≡◌, ℕ, ◌-◌, take, refl, ap, ◌∙◌, arith}
 use Rattle.chunk.specs.declared.Contents.{Contents}
 use Rattle.meld.specs.Laid.{laid_at, places_of}
 use Rattle.meld.proofs.Place.{next_body}
@@ -13,7 +13,9 @@ returns c =
     let b = v.back.words.now in
     let p = v.front.placed in
     let q = v.back.placed in
-    let to : c.places-to.result ≡ places_of v.seam a b = c.places-to.ensures ∙ rw (p.key_count, p.val_count, p.time_count, p.diff_count, q.key_count, q.val_count, q.time_count, q.diff_count) in
+    let few = c.requires.counted in
+    let to : c.places-to.result ≡ places_of v.seam a b = c.places-to.ensures.near (omega (arith, p.key_count, q.key_count, few.keys_few), omega (arith, p.val_count, q.val_count, few.vals_few), omega (arith, p.time_count, q.time_count, few.times_few), omega (arith, p.diff_count, q.diff_count, few.diffs_few))
+    ∙ rw (p.key_count, p.val_count, p.time_count, p.diff_count, q.key_count, q.val_count, q.time_count, q.diff_count) in
     let keys = ap (λ (n : ℕ). n - v.seam.keys) p.key_count in
     let vals = ap (λ (n : ℕ). n - v.seam.vals) p.val_count in
     next_body _ refl

@@ -5,7 +5,7 @@ use mathlib.Core.List.{List}
 use borrow.Rule.Slice.PartMut.{put_mid}
 use Rattle.retain.specs.Found.{Joined}
 use lib.ListN.{length, take, drop, set, replicate}
-use Rattle.retain.proofs.Spots.{standing-length, joined_full, joined_on, joined_back}
+use Rattle.retain.proofs.Spots.{standing-length, joined_full, joined_on, joined_in_place, joined_back}
 use Rattle.retain.proofs.climb.add_corner.Goals as goal
 
 pub invariant_of-so_far : goal.invariant_of-so_far
@@ -31,3 +31,6 @@ returns-else-top-count c = let a = c in rw c.copy_within.ensures.after (joined_o
 
 pub returns-then-top-gt-MOST : goal.returns-then-top-gt-MOST
 returns-then-top-gt-MOST c = let a = c in joined_full _ a.args.count a.requires.0 a.args.t _ _ c.first_at-at.ensures c.run_end-end.ensures a.requires.1 c.if-top-gt-MOST.true _
+
+pub returns-then-end-at : goal.returns-then-end-at
+returns-then-end-at c = let a = c in joined_in_place _ a.args.count a.requires.0 a.args.t _ _ c.first_at-at.ensures c.run_end-end.ensures a.requires.1 c.if-top-gt-MOST.false c.if-end-at.true

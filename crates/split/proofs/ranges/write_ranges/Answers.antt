@@ -13,7 +13,7 @@ use Rattle.split.proofs.ranges.write_ranges.Goals as goal
 pub slice_bounds-write_run-end-3 : goal.slice_bounds-write_run-end-3
 slice_bounds-write_run-end-3 c =
     let f = c.requires.words_value in
-    let u = range_cuts (its_layers c.args.chunk.words.now f.0 f.1) c.requires.ranged c.places-to.ensures in
+    let u = range_cuts (its_layers c.args.chunk.words.now f.0 f.1) c.requires.ranged c.places-to.ensures.near in
     within_as _ _ _ u.times_in (omega arith)
 
 pub returns : goal.returns
@@ -22,7 +22,7 @@ returns c =
     let w = v.chunk.words.now in
     let p = its_layers w c.requires.words_value.0 c.requires.words_value.1 in
     let q = c.requires.ranged in
-    let u = range_cuts p q c.places-to.ensures in
+    let u = range_cuts p q c.places-to.ensures.near in
     let l = c.places-to.result in
     let rows = p.diffs_all ∙ sym p.times_all in
     let within = within_as _ _ _ q.times_in p.times_all in

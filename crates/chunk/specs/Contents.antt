@@ -23,9 +23,13 @@ layout_of k v t d =
       size = table_size + 2 * k + 2 * v + 2 * t + d;
     }
 
--- the same, where no count is over 2^60; of no items where one is
+-- whether each of four counts is a number at most
+abbrev pub each_within : ℕ → ℕ → ℕ → ℕ → ℕ → Bool
+each_within n k v t d = leb k n && (leb v n && (leb t n && leb d n))
+
+-- where the bodies stand, where no count is over 2^60; of no items where one is
 unfoldable pub layout_near : ℕ → ℕ → ℕ → ℕ → Contents
-layout_near k v t d = cond (leb k (2 ^ 60) && (leb v (2 ^ 60) && (leb t (2 ^ 60) && leb d (2 ^ 60)))) (layout_of k v t d) (layout_of 0 0 0 0)
+layout_near k v t d = cond (each_within (2 ^ 60) k v t d) (layout_of k v t d) (layout_of 0 0 0 0)
 
 -- the contents that the front of a slice says
 abbrev pub contents_in : List ℕ → Contents
@@ -42,7 +46,7 @@ contents_of w = where_true (table_fits w) (contents_in w)
 
 -- where the bodies of an output stand, for counts that a chunk can have
 unfoldable pub layout_within : ℕ → ℕ → ℕ → ℕ → Option Contents
-layout_within k v t d = where_true (leb k limit && (leb v limit && (leb t limit && leb d limit))) (layout_of k v t d)
+layout_within k v t d = where_true (each_within limit k v t d) (layout_of k v t d)
 
 -- the table's own words
 abbrev pub table_of : ℕ → ℕ → ℕ → ℕ → List ℕ

@@ -1,7 +1,7 @@
 #![tactic(auto)]
 
 ghost use Rattle.std.specs.Prelude.{◌≡◌, suc, ◌≤◌, ◌<◌, ◌^◌, true, false, ◌&&◌, ◌||◌, eqb, length, [], ◌∷◌, MatchResult};
-ghost use Rattle.chunk.specs.Contents.{contents_of, layout_of, layout_near, layout_within, with_table, child_range};
+ghost use Rattle.chunk.specs.Contents.{contents_of, each_within, layout_of, layout_near, layout_within, with_table, child_range};
 ghost use Rattle.chunk.specs.Time.{earlier, at_or_below};
 ghost use Rattle.chunk.specs.Check.{checked_of};
 ghost use Rattle.chunk.specs.Answer.{number_of};
@@ -133,15 +133,22 @@ fn summed(nk: usize, nv: usize, nt: usize, nd: usize) -> Contents
     }
 }
 
+// Whether each count is `most` at most.
+fn each_within(most: usize, nk: usize, nv: usize, nt: usize, nd: usize) -> bool
+    ensures { result ≡ each_within most nk nv nt nd }
+{
+    nk <= most && nv <= most && nt <= most && nd <= most
+}
+
 // The places of the bodies for these counts, where none is over 2^60; of no items where one is.
 pub fn places(nk: usize, nv: usize, nt: usize, nd: usize) -> Contents
     ensures value { result ≡ layout_near nk nv nt nd }
     ensures near { (nk ≤ 2 ^ 60) × (nv ≤ 2 ^ 60) × (nt ≤ 2 ^ 60) × (nd ≤ 2 ^ 60) → result ≡ layout_of nk nv nt nd }
 {
-    if NEAR < nk || NEAR < nv || NEAR < nt || NEAR < nd {
-        return summed(0, 0, 0, 0);
+    if each_within(NEAR, nk, nv, nt, nd) {
+        return summed(nk, nv, nt, nd);
     }
-    summed(nk, nv, nt, nd)
+    summed(0, 0, 0, 0)
 }
 
 // The contents of a slice whose table fits it; none where it doesn't. No count is added up before it is known to be small.
@@ -170,10 +177,10 @@ pub fn read_contents(words: &[u64]) -> Option<Contents>
 pub fn layout(nk: usize, nv: usize, nt: usize, nd: usize) -> Option<Contents>
     ensures { result ≡ layout_within nk nv nt nd }
 {
-    if LIMIT < nk || LIMIT < nv || LIMIT < nt || LIMIT < nd {
-        return None;
+    if each_within(LIMIT, nk, nv, nt, nd) {
+        return Some(summed(nk, nv, nt, nd));
     }
-    Some(summed(nk, nv, nt, nd))
+    None
 }
 
 // Writes the contents table at the front of `out`; leaves a slice that is too short for it as it was.

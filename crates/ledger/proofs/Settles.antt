@@ -20,7 +20,7 @@ use Rattle.reports.specs.Merge.{merge_number, merge_out}
 use Rattle.merge.specs.Outcome.{Joined, answer_by, merge_answer}
 use Rattle.ledger.proofs.Numbered.{one_number, none_of, one_answer}
 use Rattle.whole.specs.Whole.{survives, whole_number, clean_out, left_out}
-use Rattle.ledger.specs.Settles.{Two, Three, Lent, LentOf, PlacesSettles, NumberSettles, BodySettles, FormedSettles, SettledSettles, FilledSettles, ReadSettles, CountSettles, AnswerSettles, JoinedSettles, CheckSettles, FormSettles, UnsortedSettles, FilterSettles, SplitSettles, SuffixSettles, MeldSettles, ContentsSettles, LayoutSettles, TableSettles, ChildSettles, EarlierSettles, BelowSettles, SortSettles, CopySettles, ShiftSettles, ExtractSettles, FrontierSettles, RunSettles, StartSettles, StepSettles, AdvanceSettles, BeginSettles, StepInPlaceSettles, StartInPlaceSettles, NextSettles, PlanSettles, SurveySettles, ListedSettles, MergeSettles, WholeSettles, ScratchIdle, WholeScratchIdle}
+use Rattle.ledger.specs.Settles.{Two, Three, Lent, LentOf, PlacesSettles, NumberSettles, BodiesSettle, FormedSettles, SettledSettles, FilledSettles, ReadSettles, CountSettles, AnswerSettles, JoinedSettles, CheckSettles, FormSettles, UnsortedSettles, FilterSettles, SplitSettles, SuffixSettles, MeldSettles, ContentsSettles, LayoutSettles, TableSettles, ChildSettles, EarlierSettles, BelowSettles, SortSettles, CopySettles, ShiftSettles, ExtractSettles, FrontierSettles, RunSettles, StartSettles, StepSettles, AdvanceSettles, BeginSettles, StepInPlaceSettles, StartInPlaceSettles, NextSettles, PlanSettles, SurveySettles, ListedSettles, MergeSettles, WholeSettles, ScratchIdle, WholeScratchIdle}
 
 -- the one law: what a promise says by an equation is settled
 pub settled : {A : Type 0} {x y z : A} → x ≡ z → y ≡ z → x ≡ y
@@ -93,8 +93,18 @@ below_settles s t o q h k = settled h k
 pub number_settles : NumberSettles
 number_settles r o q h k = settled h k
 
-pub body_settles : BodySettles
-body_settles body w o q h k = settled h k
+pub bodies_settle : (w : List ℕ) → BodiesSettle w
+bodies_settle w =
+    record {
+      keys = λ o q h k. settled h k;
+      val_ends = λ o q h k. settled h k;
+      vals = λ o q h k. settled h k;
+      time_ends = λ o q h k. settled h k;
+      times = λ o q h k. settled h k;
+      diff_ends = λ o q h k. settled h k;
+      diffs = λ o q h k. settled h k;
+      whole = λ o q h k. settled h k;
+    }
 
 -- the contents of one chunk's words are one
 one_contents : (w : List ℕ) (c d : Contents) → Placed c w → Placed d w → c ≡ d

@@ -1,14 +1,14 @@
 -- "For any call, two outcomes that its promise allows are shown equal", and "no answer may depend on what scratch held" (document 01,
 -- "What the promises have to settle"). An outcome is the answer and every slice lent to write to, as it stands afterwards; what a promise
 -- allows is what the public function ensures. Each statement is a type here, and a theorem of proofs/Settles.antt.
-use Rattle.std.specs.Prelude.{ℕ, ◌≡◌, ◌<◌, Bool, true, false, List, [], ◌∷◌, length, Option, Result, MatchResult}
+use Rattle.std.specs.Prelude.{ℕ, ◌≡◌, ◌<◌, Bool, true, false, List, [], ◌∷◌, length, take, Option, Result, MatchResult}
 use Rattle.chunk.specs.declared.Checked.{Checked}
 use Rattle.chunk.specs.declared.Contents.{Contents}
 use Rattle.chunk.specs.declared.Range.{Range}
 use Rattle.chunk.specs.declared.Refusal.{Refusal}
 use Rattle.chunk.specs.declared.Refusal.TheVariants.{Malformed}
 use Rattle.chunk.specs.Answer.{number_of, answer_number}
-use Rattle.chunk.specs.Words.{nt, well_formed, settled}
+use Rattle.chunk.specs.Words.{nt, size, key_body, val_end_body, val_body, time_end_body, time_body, diff_end_body, diff_body, well_formed, settled}
 use Rattle.chunk.specs.Refusal.{first, malformed, unsettled, empty}
 use Rattle.chunk.specs.Time.{earlier, at_or_below}
 use Rattle.chunk.specs.Contents.{contents_of, layout_within, layout_near, with_table, child_range, Placed}
@@ -135,9 +135,16 @@ BelowSettles = (s t : ℕ) → Settled (λ (o : Bool). o ≡ at_or_below s t)
 abbrev pub NumberSettles : Type 0
 NumberSettles = (r : Refusal) → Settled (λ (o : ℕ). o ≡ number_of r)
 
--- the bodies of a lent chunk and all of its words: each is an equation with one of these, or with the front of the words
-abbrev pub BodySettles : Type 0
-BodySettles = (body : List ℕ → List ℕ) (w : List ℕ) → Settled (λ (o : List ℕ). o ≡ body w)
+-- the bodies of a lent chunk, and all of its words
+pub record BodiesSettle (w : List ℕ) : Type 0 where
+  pub keys : Settled (λ (o : List ℕ). o ≡ key_body w)
+  pub val_ends : Settled (λ (o : List ℕ). o ≡ val_end_body w)
+  pub vals : Settled (λ (o : List ℕ). o ≡ val_body w)
+  pub time_ends : Settled (λ (o : List ℕ). o ≡ time_end_body w)
+  pub times : Settled (λ (o : List ℕ). o ≡ time_body w)
+  pub diff_ends : Settled (λ (o : List ℕ). o ≡ diff_end_body w)
+  pub diffs : Settled (λ (o : List ℕ). o ≡ diff_body w)
+  pub whole : Settled (λ (o : List ℕ). o ≡ take (size w) w)
 
 -- a chunk that is lent: its words and their contents, which the bodies stand by
 abbrev pub Lent : Type 0

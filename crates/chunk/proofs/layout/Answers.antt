@@ -1,21 +1,13 @@
--- `chunk::layout` meets its contract: a count above the limit gives nothing.
+-- `chunk::layout` meets its contract: by the test of the counts.
 use mathlib.Core.Path.{◌∙◌, ap}
-use Rattle.std.specs.Prelude.{Some}
-use borrow.Author.Tests.{le-leb, lt-leb}
-use Rattle.chunk.specs.Contents.{layout_within}
-use Rattle.chunk.proofs.layout.Goals.{then-nk-gt-LIMIT-via-then-nk-gt-LIMIT, then-nk-gt-LIMIT-via-else-nk-gt-LIMIT+then-nv-gt-LIMIT, then-nk-gt-LIMIT-via-else-nk-gt-LIMIT+else-nv-gt-LIMIT+then-nt-gt-LIMIT, then-nk-gt-LIMIT-via-else-nk-gt-LIMIT+else-nv-gt-LIMIT+else-nt-gt-LIMIT+then-nd-gt-LIMIT}
+use Rattle.std.specs.Prelude.{Bool, Some}
+use Rattle.chunk.specs.Contents.{layout_of, layout_within, where_true}
 use Rattle.chunk.proofs.layout.Goals as goal
 
-pub returns-then-nk-gt-LIMIT : goal.returns-then-nk-gt-LIMIT
+pub returns-then-each_within : goal.returns-then-each_within
 unfolding layout_within
-returns-then-nk-gt-LIMIT c =
-    elim c.then-nk-gt-LIMIT.branch [
-      | then-nk-gt-LIMIT-via-then-nk-gt-LIMIT w ↦ simp (lt-leb _ _ w.if-nk-gt-LIMIT.true)
-      | then-nk-gt-LIMIT-via-else-nk-gt-LIMIT+then-nv-gt-LIMIT w ↦ simp (le-leb _ _ w.if-nk-gt-LIMIT.false, lt-leb _ _ w.if-nv-gt-LIMIT.true)
-      | then-nk-gt-LIMIT-via-else-nk-gt-LIMIT+else-nv-gt-LIMIT+then-nt-gt-LIMIT w ↦ simp (le-leb _ _ w.if-nk-gt-LIMIT.false, le-leb _ _ w.if-nv-gt-LIMIT.false, lt-leb _ _ w.if-nt-gt-LIMIT.true)
-      | then-nk-gt-LIMIT-via-else-nk-gt-LIMIT+else-nv-gt-LIMIT+else-nt-gt-LIMIT+then-nd-gt-LIMIT w ↦ simp (le-leb _ _ w.if-nk-gt-LIMIT.false, le-leb _ _ w.if-nv-gt-LIMIT.false, le-leb _ _ w.if-nt-gt-LIMIT.false, lt-leb _ _ w.if-nd-gt-LIMIT.true)
-    ]
+returns-then-each_within c = ap Some c.summed.ensures ∙ ap (λ (b : Bool). where_true b (layout_of c.args.nk c.args.nv c.args.nt c.args.nd)) c.if-each_within.ensures
 
 pub returns : goal.returns
 unfolding layout_within
-returns c = ap Some c.summed.ensures ∙ simp (le-leb _ _ c.if-nk-gt-LIMIT.false, le-leb _ _ c.if-nv-gt-LIMIT.false, le-leb _ _ c.if-nt-gt-LIMIT.false, le-leb _ _ c.if-nd-gt-LIMIT.false)
+returns c = ap (λ (b : Bool). where_true b (layout_of c.args.nk c.args.nv c.args.nt c.args.nd)) c.if-each_within.ensures

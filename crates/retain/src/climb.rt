@@ -54,11 +54,9 @@ pub(crate) fn add_corner(corners: &mut [u64], count: usize, t: u64) -> usize
         return top;
     }
     // Where one goes and one comes, none of the others moves.
-    if end == at + 1 {
-        corners[at] = t;
-        return top;
+    if end != at + 1 {
+        corners.copy_within(end..count, at + 1);
     }
-    corners.copy_within(end..count, at + 1);
     corners[at] = t;
     if top < count {
         corners[top..count].fill(0);

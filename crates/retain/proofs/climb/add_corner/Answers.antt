@@ -25,17 +25,19 @@ returns-then-top-count c =
     let t : ℕ = c.args.count - c.run_end-end.result + c.first_at-at.result + 1 in
     let P : List ℕ → Type 0 = λ l. (new : List ℕ) → new ≡ replicate (length (take (a.args.count - t) (drop t (set l c.first_at-at.result a.args.t)))) 0
     → Joined a.args.t (take a.args.count a.args.corners.now) t (put_mid t (a.args.count - t) (set l c.first_at-at.result a.args.t) new) in
+    let shorter = c.if-top-count.true in
     elim c.if-end-at.branch [
       | then-end-at w ↦
-          subst P (sym (w.corners-is ∙ w.copy_within.ensures.after)) (joined_back _ a.args.count a.requires.0 a.args.t _ _ c.first_at-at.ensures c.run_end-end.ensures a.requires.1 c.if-top-gt-MOST.false c.if-top-count.true) _ (c.fill.ensures.after (λ y q. q))
-      | else-end-at w ↦ let same = w.if-end-at.false in let shorter = c.if-top-count.true in absurd (omega (arith, same, shorter))
+          subst P (sym (w.corners-is ∙ w.copy_within.ensures.after)) (joined_back _ a.args.count a.requires.0 a.args.t _ _ c.first_at-at.ensures c.run_end-end.ensures a.requires.1 c.if-top-gt-MOST.false (omega (arith, shorter))) _ (c.fill.ensures.after (λ y q. q))
+      | else-end-at w ↦ let same = w.if-end-at.false in absurd (omega (arith, same, shorter))
     ]
 
 pub returns-else-top-count : goal.returns-else-top-count
 returns-else-top-count c =
     let a = c in
+    let all = c.if-top-count.false in
     elim c.if-end-at.branch [
-      | then-end-at w ↦ rw (w.corners-is ∙ w.copy_within.ensures.after) (joined_on _ a.args.count a.requires.0 a.args.t _ _ c.first_at-at.ensures c.run_end-end.ensures a.requires.1 c.if-top-gt-MOST.false c.if-top-count.false)
+      | then-end-at w ↦ rw (w.corners-is ∙ w.copy_within.ensures.after) (joined_on _ a.args.count a.requires.0 a.args.t _ _ c.first_at-at.ensures c.run_end-end.ensures a.requires.1 c.if-top-gt-MOST.false (omega (arith, all)))
       | else-end-at w ↦ rw w.corners-is (joined_in_place _ a.args.count a.requires.0 a.args.t _ _ c.first_at-at.ensures c.run_end-end.ensures a.requires.1 c.if-top-gt-MOST.false w.if-end-at.false)
     ]
 
